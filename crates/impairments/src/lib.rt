@@ -1,0 +1,6 @@
+// What a radio link does to a signal: the formula of each stage.
+pub mod balance;
+pub mod entry;
+pub mod gain;
+pub mod offset;
+pub mod path;

@@ -1,0 +1,9 @@
+// Stages: sources over sources.
+//
+// Proved once, over every source below: what a stage means by its whole and its left is a function of its own state and
+// of what the sources below mean, and each call keeps to it. So every pile of stages, in every order that the kinds of
+// item allow, is covered.
+pub mod clock_offset;
+pub mod each;
+pub mod scan;
+pub mod seeds;
