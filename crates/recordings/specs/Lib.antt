@@ -1,0 +1,5 @@
+pub mod Bytes
+pub mod Chunks
+pub mod Items
+pub mod Opening
+pub mod Refusals

@@ -1,0 +1,31 @@
+-- What opening answers, for every byte string.
+use mathlib.Core.List.{List}
+use Prim.Native.Nat.{ℕ, _/_}
+use lib.ListN.{take, drop}
+use Rattle.std.specs.declared.option.Option.{Option}
+use Rattle.std.specs.declared.result.Result.{Result}
+use Rattle.std.specs.declared.result.Result.the-variants.{Ok, Err}
+use Rattle.source.specs.declared.fault.FaultKind.{FaultKind}
+use Rattle.source.specs.Streams.{Stream}
+use Rattle.recordings.specs.declared.chunks.Found.{Found}
+use Rattle.recordings.specs.declared.format.Format.{Format}
+use Rattle.recordings.specs.declared.refusal.OpeningRefusal.{OpeningRefusal}
+use Rattle.recordings.specs.Chunks.{find-data}
+use Rattle.recordings.specs.Items.{held-from}
+
+-- an opened recording: its rate, and everything that it holds
+pub record Opened (T : Type 0) : Type 0 where
+  pub rate : ℕ
+  pub whole : Stream T
+
+-- the content of the data chunk
+abbrev pub content : List ℕ → Found → List ℕ
+content b found = take (found .size) (drop (found .start) b)
+
+abbrev pub opened : {T : Type 0} → (List ℕ → Option T) → ℕ → FaultKind → ℕ → List ℕ → Result Found OpeningRefusal → Result (Opened T) OpeningRefusal
+opened meaning a kind input b (Err e) = Err e
+opened meaning a kind input b (Ok found) = Ok (record { rate = found .rate; whole = held-from meaning a kind input 0 (found .size / a) (content b found) })
+
+-- the bytes b, opened as a recording of the format f with the input number that is given
+abbrev pub opening : {T : Type 0} → Format → (List ℕ → Option T) → FaultKind → ℕ → List ℕ → Result (Opened T) OpeningRefusal
+opening f meaning kind input b = opened meaning (f .align) kind input b (find-data f b)
