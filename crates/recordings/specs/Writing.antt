@@ -1,6 +1,6 @@
 -- What a written recording is, byte for byte, and what the buffer holds after each call of the writer.
 use mathlib.Core.Path.{_≡_}
-use mathlib.Core.Bool.{Bool, cond, _&&_}
+use mathlib.Core.Bool.{Bool, true, cond, _&&_}
 use mathlib.Core.List.{List, [], _∷_, _++_}
 use Prim.Native.Nat.{ℕ, suc, _+_, _-_, _*_}
 use lib.Chars.{codes}
@@ -15,6 +15,7 @@ use Rattle.recordings.specs.declared.refusal.WritingRefusal.{WritingRefusal}
 use Rattle.recordings.specs.declared.refusal.WritingRefusal.the-variants.{Buffer, Full, Rate}
 use Rattle.recordings.specs.declared.started.StartedRecording.{StartedRecording}
 use Rattle.recordings.specs.Bytes.{le16, le32, overwrite}
+use Rattle.recordings.specs.Opening.{Hands-out}
 
 -- the 44 bytes before the samples, with the size of what follows the first 8 bytes, and of the samples
 abbrev pub header : ℕ → ℕ → ℕ → List ℕ
@@ -80,3 +81,11 @@ sized b n = overwrite 40 (le32 (4 * n)) (overwrite 4 (le32 (size-of n - 8)) b)
 
 abbrev pub after-finish : List ℕ → ℕ → List ℕ
 after-finish b n = cond (fits (length b) n) (sized b n) b
+
+-- The round trip, call by call: whatever samples the bytes held, they hold them and the one that was put in;
+abbrev pub Adds : List ℕ → List ℕ → ℕ → ConverterSample → Type 0
+Adds b after n x = (rate : ℕ) (xs : List ConverterSample) → length xs ≡ n → Holds b rate xs → Holds after rate (xs ++ x ∷ [])
+
+-- and whatever samples they held, the finished bytes are the recording of them, and hand them out when they are opened.
+abbrev pub Finishes : List ℕ → List ℕ → ℕ → Type 0
+Finishes b after n = (rate : ℕ) (xs : List ConverterSample) → length xs ≡ n → good-rate rate ≡ true → Holds b rate xs → (take (size-of n) after ≡ recorded rate xs) × Hands-out (take (size-of n) after) rate xs

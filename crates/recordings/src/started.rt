@@ -1,7 +1,9 @@
 // Writing a signal recording into a buffer: start, put, finish, abandon.
 ghost use mathlib.Core.Path.{_≡_};
+ghost use mathlib.Core.List.{[]};
 ghost use lib.ListN.{length};
-ghost use Rattle.recordings.specs.Writing.{start-answer, after-start, put-answer, put-count, after-put, finish-answer, after-finish};
+ghost use Rattle.std.specs.Vec.{made};
+ghost use Rattle.recordings.specs.Writing.{start-answer, after-start, put-answer, put-count, after-put, finish-answer, after-finish, Holds, Adds, Finishes};
 use crate::encoding::coded;
 use crate::encoding::header;
 use crate::encoding::le32;
@@ -36,6 +38,7 @@ impl StartedRecording {
     pub fn start(bytes: &mut [u8], rate: u32) -> Result<StartedRecording, WritingRefusal>
         ensures answer { λ r. ⌜ r ≡ start-answer (length (now (bytes .entry))) rate ⌝ }
         ensures bytes { λ _. ⌜ now (bytes .exit) ≡ after-start (now (bytes .entry)) rate ⌝ }
+        ensures holds { λ r. ⌜ made r (λ _. Holds (now (bytes .exit)) rate []) ⌝ }
     {
         if rate < 1 || rate > MAX_RATE {
             return Err(WritingRefusal::Rate);
@@ -52,6 +55,7 @@ impl StartedRecording {
         ensures answer { λ r. ⌜ r ≡ put-answer (length (now (bytes .entry))) (now (self .entry) .samples) ⌝ }
         ensures count { λ _. ⌜ now (self .exit) .samples ≡ put-count (length (now (bytes .entry))) (now (self .entry) .samples) ⌝ }
         ensures bytes { λ _. ⌜ now (bytes .exit) ≡ after-put (now (bytes .entry)) (now (self .entry) .samples) sample ⌝ }
+        ensures holds { λ r. ⌜ made r (λ _. Adds (now (bytes .entry)) (now (bytes .exit)) (now (self .entry) .samples) sample) ⌝ }
     {
         let at = HEADER + 4 * self.samples as usize;
         if at + 4 > bytes.len() || at + 4 > MAX_BYTES {
@@ -67,6 +71,7 @@ impl StartedRecording {
     pub fn finish(self, bytes: &mut [u8]) -> Result<usize, (WritingRefusal, StartedRecording)>
         ensures answer { λ r. ⌜ r ≡ finish-answer (length (now (bytes .entry))) self ⌝ }
         ensures bytes { λ _. ⌜ now (bytes .exit) ≡ after-finish (now (bytes .entry)) (self .samples) ⌝ }
+        ensures opens { λ r. ⌜ made r (λ _. Finishes (now (bytes .entry)) (now (bytes .exit)) (self .samples)) ⌝ }
     {
         let size = HEADER + 4 * self.samples as usize;
         if size > bytes.len() || size > MAX_BYTES {

@@ -3,7 +3,7 @@ use mathlib.Core.Bool.{Bool, true, cond, _&&_}
 use mathlib.Core.List.{List}
 use Prim.Native.Nat.{ℕ, _≤_, _<_}
 use native.Mathlib.Omega.{arith}
-use lib.ListN.{length}
+use lib.ListN.{length, take}
 use Rattle.std.proofs.shelf.Ways.{tells}
 use Rattle.recordings.specs.Bytes.{overwrite}
 use Rattle.recordings.specs.Writing.{header, good-rate, good-buffer, start-answer, after-start}
@@ -24,4 +24,8 @@ returns c =
     let r = rate-passes (c .args .rate) (omega arith) (omega arith) in
     let s = buffer-passes (length (c .args .bytes .now)) (omega arith) (omega arith) in
     let w = c .place .ensures ∙ ap (λ (xs : List ℕ). overwrite 0 xs (c .args .bytes .now)) (c .header .ensures) in
-    record { answer = simp (r, s); bytes = written (c .args .bytes .now) (c .place .last .bytes) (header (c .args .rate) 0 0) (good-rate (c .args .rate)) (good-buffer (length (c .args .bytes .now))) r s w }
+    record {
+      answer = simp (r, s);
+      bytes = written (c .args .bytes .now) (c .place .last .bytes) (header (c .args .rate) 0 0) (good-rate (c .args .rate)) (good-buffer (length (c .args .bytes .now))) r s w;
+      holds = ap (take 44) w;
+    }
