@@ -2,5 +2,6 @@ pub mod Back
 pub mod Filling
 pub mod Overwriting
 pub mod Reading
+pub mod Rewriting
 pub mod Sittings
 pub mod Walks

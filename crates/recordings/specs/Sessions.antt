@@ -12,11 +12,14 @@ use Rattle.std.specs.declared.result.Result.the-variants.{Ok, Err}
 use Rattle.samples.specs.declared.converter.ConverterSample.{ConverterSample}
 use Rattle.source.specs.declared.fault.Ending.{Ending}
 use Rattle.source.specs.Streams.{Stream}
+use Rattle.recordings.specs.declared.refusal.OpeningRefusal.{OpeningRefusal}
+use Rattle.recordings.specs.declared.refusal.RewritingRefusal.{RewritingRefusal}
+use Rattle.recordings.specs.declared.refusal.RewritingRefusal.the-variants.{Opening, Writing}
 use Rattle.recordings.specs.declared.refusal.WritingRefusal.{WritingRefusal}
 use Rattle.recordings.specs.declared.refusal.WritingRefusal.the-variants.{Buffer, Rate}
 use Rattle.recordings.specs.declared.session.Part.{Part}
 use Rattle.recordings.specs.Bytes.{overwrite}
-use Rattle.recordings.specs.Opening.{Hands-out}
+use Rattle.recordings.specs.Opening.{Opened, Hands-out}
 use Rattle.recordings.specs.Writing.{size-of, recorded, good-rate, good-buffer}
 
 -- how many samples a buffer of len bytes has room for
@@ -55,3 +58,27 @@ left-after-record len rate s = cond (accepted len rate) (from (taken (room len) 
 -- the round trip: the recording, opened, hands out what went in
 abbrev pub Comes-back : ℕ → ℕ → Stream ConverterSample → List ℕ → Type 0
 Comes-back len rate s after = Hands-out (take (size-of (taken (room len) s)) after) rate (take (taken (room len) s) (s .items))
+
+-- Rewriting: what the bytes hold when they are opened is recorded, at the same rate.
+abbrev pub as-writing : Result Part WritingRefusal → Result Part RewritingRefusal
+as-writing (Ok part) = Ok part
+as-writing (Err e) = Err (Writing e)
+
+abbrev pub rewrite-answer : ℕ → Result (Opened ConverterSample) OpeningRefusal → Result Part RewritingRefusal
+rewrite-answer len (Err e) = Err (Opening e)
+rewrite-answer len (Ok o) = as-writing (record-answer len (o .rate) (o .whole))
+
+abbrev pub after-rewrite : List ℕ → Result (Opened ConverterSample) OpeningRefusal → List ℕ
+after-rewrite b (Err e) = b
+after-rewrite b (Ok o) = after-record b (o .rate) (o .whole)
+
+-- the recording that is handed back has the rest of it left
+abbrev pub Goes-on : ℕ → Result (Opened ConverterSample) OpeningRefusal → Stream ConverterSample → Stream ConverterSample → Type 0
+Goes-on len (Err e) whole left = ⊥
+Goes-on len (Ok o) whole left = (whole ≡ o .whole) × (left ≡ left-after-record len (o .rate) (o .whole))
+
+-- The other round trip: a recording of the shape that we write, which fits the buffer, keeps every byte.
+abbrev pub Keeps : List ℕ → List ℕ → List ℕ → Result Part RewritingRefusal → Type 0
+Keeps b out after answer =
+    (rate : ℕ) (xs : List ConverterSample) → good-rate rate ≡ true → b ≡ recorded rate xs → length b ≤ length out → length out ≤ 65536
+    → (take (length b) after ≡ b) × ((part : Part) × ((answer ≡ Ok part) × (part .length ≡ length b)))

@@ -1,12 +1,22 @@
 // Whole sessions: one recording of what a source has left, and a recording read and rewritten.
 ghost use mathlib.Core.Path.{_≡_};
-ghost use Prim.Native.Nat.{_+_, _≤_};
+ghost use Prim.Native.Nat.{_+_, _-_, _≤_};
 ghost use lib.ListN.{length, take};
 ghost use Rattle.std.specs.Joined.{joined};
+ghost use Rattle.std.specs.Results.{Cases};
 ghost use Rattle.std.specs.Vec.{made};
+ghost use Rattle.std.specs.declared.result.Result.the-variants.{Ok, Err};
+ghost use Rattle.source.specs.declared.fault.FaultKind.the-variants.{LowBits};
 ghost use Rattle.recordings.specs.Bytes.{overwrite};
-ghost use Rattle.recordings.specs.Sessions.{taken, from, met, record-answer, after-record, left-after-record, Comes-back};
+ghost use Rattle.recordings.specs.Items.{held-from, signal-item};
+ghost use Rattle.recordings.specs.Opening.{signal-opening};
+ghost use Rattle.recordings.specs.Sessions.{taken, from, met, record-answer, after-record, left-after-record, Comes-back, rewrite-answer, after-rewrite, Goes-on, Keeps};
 ghost use Rattle.recordings.specs.Writing.{coded, size-of};
+use crate::layout::Signal;
+use crate::layout::SignalLayout;
+use crate::recording::Recording;
+use crate::recording::RecordingSource;
+use crate::refusal::RewritingRefusal;
 use crate::refusal::WritingRefusal;
 use crate::started::HEADER;
 use crate::started::StartedRecording;
@@ -80,5 +90,30 @@ pub fn record<S: Source<Item = ConverterSample>>(
             recording.abandon();
             Err(refusal)
         }
+    }
+}
+
+// Opens the bytes as a signal recording with this input number and writes it anew, as far as there is room in the
+// buffer; hands back the recording, to go on with by `record`.
+pub fn rewrite<'a>(
+    bytes: &'a [u8],
+    input: u8,
+    out: &mut [u8],
+) -> Result<(Part, Recording<'a, Signal>), RewritingRefusal>
+    ensures answer { λ r. ⌜ Cases r (λ p. rewrite-answer (length (now (out .entry))) (signal-opening input (now (bytes .entry))) ≡ Ok (p .0)) (λ e. rewrite-answer (length (now (out .entry))) (signal-opening input (now (bytes .entry))) ≡ Err e) ⌝ }
+    ensures bytes { λ _. ⌜ now (out .exit) ≡ after-rewrite (now (out .entry)) (signal-opening input (now (bytes .entry))) ⌝ }
+    ensures onward { λ r. ⌜ Cases r (λ p. Goes-on (length (now (out .entry))) (signal-opening input (now (bytes .entry))) (held-from signal-item 4 LowBits (p .1 .input) 0 (p .1 .count) (p .1 .data .now)) (held-from signal-item 4 LowBits (p .1 .input) (p .1 .place) (p .1 .count - p .1 .place) (p .1 .rest .now))) (λ _. Unit {0}) ⌝ }
+    ensures keeps { λ _. ⌜ Keeps (now (bytes .entry)) (now (out .entry)) (now (out .exit)) (rewrite-answer (length (now (out .entry))) (signal-opening input (now (bytes .entry)))) ⌝ }
+{
+    match Recording::<Signal>::open(bytes, input) {
+        Ok(opened) => {
+            let mut recording = opened;
+            let rate = recording.rate();
+            match record(&mut recording, rate, out) {
+                Ok(part) => Ok((part, recording)),
+                Err(refusal) => Err(RewritingRefusal::Writing(refusal)),
+            }
+        }
+        Err(refusal) => Err(RewritingRefusal::Opening(refusal)),
     }
 }
