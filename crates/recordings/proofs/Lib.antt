@@ -1,7 +1,2 @@
-pub mod Back
-pub mod Filling
-pub mod Overwriting
+pub mod Formats
 pub mod Reading
-pub mod Rewriting
-pub mod Sittings
-pub mod Walks

@@ -15,7 +15,7 @@ use Rattle.source.specs.declared.fault.Ending.{Ending}
 use Rattle.source.specs.declared.fault.Ending.the-variants.{Finished, Faulted}
 use Rattle.source.specs.declared.fault.FaultKind.{FaultKind}
 use Rattle.source.specs.Streams.{Stream, tabulate}
-use Rattle.recordings.specs.Bytes.{u16-at}
+use Rattle.wave.specs.Bytes.{u16-at}
 
 -- 16 bits as a signed number
 abbrev pub signed16 : ℕ → ℤ

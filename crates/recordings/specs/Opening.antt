@@ -2,6 +2,7 @@
 use mathlib.Core.Path.{_≡_}
 use mathlib.Core.List.{List}
 use Prim.Native.Nat.{ℕ, _/_}
+use lib.Dec.{lit<}
 use lib.ListN.{take, drop}
 use Rattle.std.specs.declared.option.Option.{Option}
 use Rattle.std.specs.declared.result.Result.{Result}
@@ -11,10 +12,10 @@ use Rattle.source.specs.declared.fault.Ending.the-variants.{Finished}
 use Rattle.source.specs.declared.fault.FaultKind.{FaultKind}
 use Rattle.source.specs.declared.fault.FaultKind.the-variants.{LowBits}
 use Rattle.source.specs.Streams.{Stream}
-use Rattle.recordings.specs.declared.chunks.Found.{Found}
-use Rattle.recordings.specs.declared.format.Format.{Format}
-use Rattle.recordings.specs.declared.refusal.OpeningRefusal.{OpeningRefusal}
-use Rattle.recordings.specs.Chunks.{find-data}
+use Rattle.wave.specs.declared.chunks.Found.{Found}
+use Rattle.wave.specs.declared.format.Format.{Format}
+use Rattle.wave.specs.declared.refusal.OpeningRefusal.{OpeningRefusal}
+use Rattle.wave.specs.Chunks.{find-data}
 use Rattle.recordings.specs.Items.{held-from, signal-item}
 
 -- an opened recording: its rate, and everything that it holds
@@ -36,14 +37,14 @@ opening f meaning kind input b = opened meaning (f .align) kind input b (find-da
 
 -- a signal recording: 2 channels, 4 bytes a sample, 12 bits
 abbrev pub signal-format : Format
-signal-format = record { channels = 2; align = 4; bits = 12 }
+signal-format = record { channels = 2; align = 4; bits = 12; «takes_room» = lit< tt }
 
 abbrev pub signal-opening : ℕ → List ℕ → Result (Opened ConverterSample) OpeningRefusal
 signal-opening input b = opening signal-format signal-item LowBits input b
 
 -- a gain recording: 1 channel, 1 byte an index, 8 bits
 abbrev pub gain-format : Format
-gain-format = record { channels = 1; align = 1; bits = 8 }
+gain-format = record { channels = 1; align = 1; bits = 8; «takes_room» = lit< tt }
 
 -- these bytes, opened, hand out exactly these samples, at this rate, and are finished then
 abbrev pub Hands-out : List ℕ → ℕ → List ConverterSample → Type 0

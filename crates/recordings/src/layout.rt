@@ -1,20 +1,19 @@
 // The two kinds of recording: how an item stands in its bytes.
 ghost use mathlib.Core.Path.{_≡_};
 ghost use mathlib.Core.List.{List};
-ghost use Prim.Native.Nat.{ℕ, _<_};
+ghost use Prim.Native.Nat.{ℕ, _+_, _*_};
 ghost use Rattle.std.specs.declared.option.Option.{Option};
-ghost use Rattle.recordings.specs.declared.format.Format.{Format};
+ghost use Rattle.wave.specs.declared.format.Format.{Format};
 ghost use Rattle.source.specs.declared.fault.FaultKind.{FaultKind};
 ghost use Rattle.source.specs.declared.fault.FaultKind.the-variants.{LowBits, GainOver};
 ghost use Rattle.recordings.specs.Opening.{signal-format, gain-format};
 ghost use Rattle.recordings.specs.Items.{part-of, signal-item, gain-item};
-use crate::bytes::u16_at;
-use crate::format::Format;
 use samples::converter::ConverterSample;
 use samples::gain_index::GainIndex;
 use samples::kinds::Converter;
 use samples::sample::Sample;
 use source::fault::FaultKind;
+use wave::format::Format;
 
 // A kind of recording: its format, and what the bytes of one item mean.
 pub trait Layout {
@@ -25,8 +24,6 @@ pub trait Layout {
     ghost meaning: { List ℕ → Option Self·Item };
     // the fault of bytes that hold none
     ghost spoilt: { FaultKind };
-
-    law takes_room: { 0 < fixed .align };
 
     fn format() -> Format
         ensures { λ r. ⌜ r ≡ fixed ⌝ };
@@ -45,6 +42,13 @@ pub struct Signal;
 // A gain recording: one channel, a byte for each gain index.
 #[derive(Clone, Copy)]
 pub struct Gains;
+
+// Two bytes, the lower first, as a number.
+fn word_of(low: u8, high: u8) -> u16
+    ensures { λ r. ⌜ r ≡ low + 256 * high ⌝ }
+{
+    low as u16 + 256 * high as u16
+}
 
 // The upper 12 of 16 bits, as a signed number.
 fn part_of(word: u16) -> i64
@@ -79,8 +83,8 @@ pub impl Layout for Signal as SignalLayout {
         if bytes.len() != 4 {
             return None;
         }
-        let re = u16_at(bytes, 0);
-        let im = u16_at(bytes, 2);
+        let re = word_of(bytes[0], bytes[1]);
+        let im = word_of(bytes[2], bytes[3]);
         if re % 16 != 0 || im % 16 != 0 {
             return None;
         }

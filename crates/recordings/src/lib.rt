@@ -1,14 +1,6 @@
-// Recordings: RIFF/WAVE files of 12-bit I/Q samples and of receive gains.
+// Opened recordings: WAVE byte strings of 12-bit I/Q samples and of receive gains, as sources.
 //
-// Proved: for every byte string, which recording opens or which refusal with which byte place is answered; that an
-// opened recording is a source of exactly the items that the bytes hold; what every byte of a buffer is after each call
-// of the writer; and the round trips: what was put in comes out, and what we wrote stays as it is when it is rewritten.
-pub mod bytes;
-pub mod chunks;
-pub mod encoding;
-pub mod format;
+// Proved: for every byte string, what opening answers, the rate and everything that the bytes hold, or the refusal; and
+// that an opened recording is a source of exactly those items, which ends with the fault of the first that is spoilt.
 pub mod layout;
 pub mod recording;
-pub mod refusal;
-pub mod session;
-pub mod started;

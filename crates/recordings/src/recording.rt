@@ -7,13 +7,13 @@ ghost use Rattle.std.specs.Vec.{made};
 ghost use Rattle.std.specs.declared.result.Result.the-variants.{Ok, Err};
 ghost use Rattle.recordings.specs.Items.{held-from};
 ghost use Rattle.recordings.specs.Opening.{opening};
-use crate::chunks::Found;
-use crate::chunks::find_data;
 use crate::layout::Layout;
-use crate::refusal::OpeningRefusal;
 use source::fault::Fault;
 use source::source::Source;
 use std::marker::PhantomData;
+use wave::chunks::Found;
+use wave::chunks::find_data;
+use wave::refusal::OpeningRefusal;
 
 // It has `count` items in its data and stands before item `place`; `rest` is the data from there on.
 #[derive(Drop)]

@@ -4,7 +4,7 @@ use Prim.Native.Nat.{ℕ, suc, _+_, _-_}
 use native.Mathlib.Omega.{arith}
 use Rattle.std.specs.declared.result.Result.the-variants.{Err}
 use Rattle.source.specs.declared.fault.FaultKind.{FaultKind}
-use Rattle.recordings.specs.declared.format.Format.{Format}
+use Rattle.wave.specs.declared.format.Format.{Format}
 use Rattle.recordings.specs.Items.{held-from}
 use Rattle.recordings.proofs.Reading.{gives, fails, from-front, from-back}
 use Rattle.recordings.proofs.recording.RecordingSource.next.Needs as need

@@ -1,0 +1,5 @@
+pub mod Back
+pub mod Filling
+pub mod Overwriting
+pub mod Rewriting
+pub mod Sittings
