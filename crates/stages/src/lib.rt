@@ -5,5 +5,7 @@
 // item allow, is covered.
 pub mod clock_offset;
 pub mod each;
+pub mod held;
+pub mod lead;
 pub mod scan;
 pub mod seeds;
