@@ -7,5 +7,6 @@ pub mod clock_offset;
 pub mod each;
 pub mod held;
 pub mod lead;
+pub mod pairing;
 pub mod scan;
 pub mod seeds;
