@@ -1,1 +1,3 @@
 mod Copies
+mod Steps
+mod Tables

@@ -7,6 +7,7 @@ pub mod clock_offset;
 pub mod each;
 pub mod held;
 pub mod lead;
+pub mod noise;
 pub mod pairing;
 pub mod scan;
 pub mod seeds;
