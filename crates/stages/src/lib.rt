@@ -3,10 +3,13 @@
 // Proved once, over every source below: what a stage means by its whole and its left is a function of its own state and
 // of what the sources below mean, and each call keeps to it. So every pile of stages, in every order that the kinds of
 // item allow, is covered.
+pub mod clock;
 pub mod clock_offset;
 pub mod each;
 pub mod held;
+mod interpolation;
 pub mod lead;
+mod line;
 pub mod noise;
 pub mod pairing;
 pub mod scan;
