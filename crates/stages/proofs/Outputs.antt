@@ -1,7 +1,7 @@
 -- What the clock makes from any state, one draw and one output on.
-use mathlib.Core.Path.{_≡_, refl, ap, sym, _∙_}
+use mathlib.Core.Path.{_≡_, refl, ap, _∙_}
 use mathlib.Core.List.{List, [], _∷_}
-use Prim.Native.Nat.{ℕ, zero, suc, _+_, _-_, _*_, _/_, _^_, _<_, _≤_}
+use Prim.Native.Nat.{ℕ, suc, _+_, _-_, _*_, _/_, _^_, _<_, _≤_}
 use native.Mathlib.Omega.{arith}
 use native.Mathlib.Numerals.{add-one}
 use native.Mathlib.Nat.{suc-mul, zero-mul}
@@ -9,7 +9,7 @@ use lib.ListN.{length, getD}
 use Rattle.samples.specs.declared.kinds.WorkingSample.{WorkingSample}
 use Rattle.source.specs.Streams.{tabulate}
 use Rattle.stages.specs.Clock.{index, fraction, sample-between, silence, on-line, output-at, count-from, outputs, outputs-from}
-use Rattle.stages.proofs.Positions.{index-on, fraction-on, index-first, fraction-first, count-on, count-start, count-none, count-more}
+use Rattle.stages.proofs.Positions.{count-on, count-start, count-none, count-more}
 use Rattle.stages.proofs.Tables.{tabulate-same, tabulate-on}
 
 -- without its first item a line has the same points, one item nearer

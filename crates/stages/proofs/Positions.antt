@@ -1,29 +1,18 @@
 -- The arithmetic of the clock's positions.
-use mathlib.Core.Path.{_≡_, refl, ap, sym, _∙_}
-use mathlib.Core.Logic.{_⊎_, inl, inr}
-use Prim.Native.Nat.{ℕ, zero, suc, _+_, _-_, _*_, _/_, _%_, _^_, _<_, _≤_}
+use mathlib.Core.Path.{_≡_, ap, _∙_}
+use mathlib.Core.Logic.{inl, inr}
+use Prim.Native.Nat.{ℕ, suc, _+_, _-_, _*_, _/_, _^_, _<_, _≤_}
 use native.Mathlib.Omega.{arith}
 use native.Mathlib.Nat.{div-eq-sub-div, div-eq-of-lt, le-div-iff-mul-le, div-lt-iff-lt-mul, suc-mul}
 use lib.Dec.{lit<}
 use Rattle.std.proofs.shelf.Tests.{cases-lt}
-use Rattle.stages.specs.Clock.{index, fraction, count-from, output-count, Exists-exactly}
+use Rattle.stages.specs.Clock.{count-from, output-count, Exists-exactly}
 
--- one item further
-pub index-on : (q : ℕ) → 2 ^ 53 ≤ q → index q ≡ suc (index (q - 2 ^ 53))
-index-on q h = omega arith
-
-pub fraction-on : (q : ℕ) → 2 ^ 53 ≤ q → fraction q ≡ fraction (q - 2 ^ 53)
-fraction-on q h = omega arith
-
-pub index-first : (p : ℕ) → p < 2 ^ 53 → index p ≡ 0
-index-first p h = omega arith
-
-pub fraction-first : (p : ℕ) → p < 2 ^ 53 → fraction p ≡ p / 2 ^ 37
-fraction-first p h = omega arith
-
+-- with an item drawn, the same outputs stand one item nearer
 pub count-on : (step p n : ℕ) → 2 ^ 53 ≤ p → count-from step p (suc n) ≡ count-from step (p - 2 ^ 53) n
 count-on step p n h = ap (λ (d : ℕ). (d + (step - 1)) / step) (omega arith)
 
+-- at the start the next output stands one item on
 pub count-start : (step n : ℕ) → count-from step (2 ^ 53) n ≡ output-count step n
 count-start step n = ap (λ (d : ℕ). (d + (step - 1)) / step) (omega arith)
 
@@ -48,6 +37,7 @@ shorter d s p q =
           omega arith
     ]
 
+-- with an output handed out, one fewer is to come
 pub count-more : (step p n : ℕ) → 0 < step → p < 2 ^ 53 → count-from step p n ≡ suc (count-from step (p + step) n)
 count-more step p n s h =
     let d : 0 < (n + 1) * 2 ^ 53 - p = omega arith in

@@ -20,7 +20,7 @@ clock-step c = natAbs (pos (2 ^ 53) +ℤ c)
 abbrev pub index : ℕ → ℕ
 index p = p / 2 ^ 53
 
--- how far it is on the way there, of 2 ^ 16: floor ((p mod 2 ^ 53) / 2 ^ 37)
+-- how far it is on the way there, in units of 2 ^ -16: floor ((p mod 2 ^ 53) / 2 ^ 37)
 abbrev pub fraction : ℕ → ℕ
 fraction p = p % 2 ^ 53 / 2 ^ 37
 
@@ -32,6 +32,7 @@ between a b f = a +ℤ floor-by ((b -ℤ a) *ℤ pos f) (2 ^ 16)
 abbrev pub sample-between : WorkingSample → WorkingSample → ℕ → WorkingSample
 sample-between x y f = record { re = between (x .re) (y .re) f; im = between (x .im) (y .im) f }
 
+-- the sample 0
 abbrev pub silence : WorkingSample
 silence = record { re = pos 0; im = pos 0 }
 
@@ -47,7 +48,7 @@ output-at xs p = sample-between (item-before xs (index p)) (getD xs (index p) si
 abbrev pub output-count : ℕ → ℕ → ℕ
 output-count step n = (n * 2 ^ 53 + (step - 1)) / step
 
--- output m stands at position m × step
+-- output m stands at position P_m = m × step
 abbrev pub outputs : ℕ → List WorkingSample → List WorkingSample
 outputs step xs = tabulate (λ m. output-at xs (m * step)) 0 (output-count step (length xs))
 
@@ -55,7 +56,7 @@ outputs step xs = tabulate (λ m. output-at xs (m * step)) 0 (output-count step 
 abbrev pub clocked : Bool → ℕ → Stream WorkingSample → Stream WorkingSample
 clocked bypassed step s = cond bypassed s (remade (outputs step) s)
 
--- output m exists exactly if the item that it reaches does
+-- output m of n items exists exactly if the item that it reaches, floor (P_m / 2 ^ 53), is one of them
 abbrev pub Exists-exactly : ℕ → Type 0
 Exists-exactly step = (m n : ℕ) → (m < output-count step n) ↔ (index (m * step) < n)
 
@@ -74,6 +75,7 @@ count-from step p n = ((n + 1) * 2 ^ 53 - p + (step - 1)) / step
 abbrev pub outputs-from : ℕ → WorkingSample → WorkingSample → ℕ → List WorkingSample → List WorkingSample
 outputs-from step before last p xs = tabulate (λ m. on-line (before ∷ last ∷ xs) (p + m * step)) 0 (count-from step p (length xs))
 
+-- the same for the numbers of a line
 abbrev pub outputs-on : Line → List WorkingSample → List WorkingSample
 outputs-on l = outputs-from (l .step) (l .before) (l .last) (l .position)
 

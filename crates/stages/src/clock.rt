@@ -1,10 +1,12 @@
 // A clock offset: the receiver's clock runs a little faster or slower, so its samples stand between those below.
 ghost use mathlib.Core.Path.{_≡_};
 ghost use mathlib.Core.List.{List, _∷_};
-ghost use Prim.Native.Nat.{_-_, _/_, _^_, _<_, _≤_};
+ghost use Prim.Native.Nat.{_-_, _^_, _<_, _≤_};
 ghost use lib.Dec.{leb};
+ghost use lib.IntN.{pos, _+ℤ_};
 ghost use Rattle.samples.specs.declared.kinds.WorkingSample.{WorkingSample as Working};
-ghost use Rattle.stages.specs.Clock.{clock-step, silence, sample-between, outputs-on, clocked, clocked-on, Exists-exactly};
+ghost use Rattle.stages.specs.Clock.{clock-step, silence, outputs-on, clocked, Exists-exactly};
+ghost use Rattle.stages.specs.Meanings.{clock-whole, clock-left};
 use crate::clock_offset::ClockOffset;
 use crate::interpolation::interpolate;
 use crate::line::Line;
@@ -33,6 +35,7 @@ impl Line {
         }
     }
 
+    // Back to before the first item.
     fn restart(&mut self)
         ensures step { λ _. ⌜ now (self .exit) .step ≡ now (self .entry) .step ⌝ }
         ensures before { λ _. ⌜ now (self .exit) .before ≡ silence ⌝ }
@@ -51,6 +54,7 @@ impl Line {
         self.position >= ITEM
     }
 
+    // The next item below becomes the line's end.
     fn draw(&mut self, x: WorkingSample)
         requires { ⌜ 2 ^ 53 ≤ now self .position ⌝ }
         ensures same { λ _. ⌜ ((xs : List Working) → outputs-on (now (self .exit)) xs ≡ outputs-on (now (self .entry)) (x ∷ xs)) ⌝ }
@@ -62,6 +66,7 @@ impl Line {
         self.position -= ITEM;
     }
 
+    // The output that stands between the two items drawn; the next one stands a step on.
     fn output(&mut self) -> WorkingSample
         requires { ⌜ now self .position < 2 ^ 53 ⌝ }
         ensures first { λ r. ⌜ ((xs : List Working) → outputs-on (now (self .entry)) xs ≡ r ∷ outputs-on (now (self .exit)) xs) ⌝ }
@@ -73,6 +78,8 @@ impl Line {
     }
 }
 
+// The line is drawn on only as far as the next output needs: at most two items for an output, none early. An ending met
+// on the way leaves the line as it stands, so the next call asks again.
 #[derive(Drop)]
 pub struct Clock<S> {
     bypassed: bool,
@@ -83,8 +90,9 @@ pub struct Clock<S> {
 impl<S: Source<Item = WorkingSample>> Clock<S> {
     // Output m stands at position m × (2^53 + c), in units of 2^-53 of an item below. Bypassed, the items below pass.
     pub fn new(bypassed: bool, offset: ClockOffset, mut below: S) -> Self
-        ensures whole { λ r. ⌜ clocked (r .bypassed) (r .line .step) (S·Source .whole (r .below)) ≡ clocked bypassed (clock-step (offset .c)) (S·Source .whole below) ⌝ }
-        ensures left { λ r. ⌜ clocked-on (r .bypassed) (r .line) (S·Source .left (r .below)) ≡ clocked bypassed (clock-step (offset .c)) (S·Source .whole below) ⌝ }
+        ensures whole { λ r. ⌜ clock-whole (S·Source .whole) r ≡ clocked bypassed (clock-step (offset .c)) (S·Source .whole below) ⌝ }
+        ensures left { λ r. ⌜ clock-left (S·Source .left) r ≡ clocked bypassed (clock-step (offset .c)) (S·Source .whole below) ⌝ }
+        ensures step { λ _. ⌜ pos (clock-step (offset .c)) ≡ pos (2 ^ 53) +ℤ offset .c ⌝ }
         ensures exists { λ _. ⌜ Exists-exactly (clock-step (offset .c)) ⌝ }
     {
         below.rewind();
@@ -99,9 +107,9 @@ impl<S: Source<Item = WorkingSample>> Clock<S> {
 pub impl<S: Source<Item = WorkingSample>> Source for Clock<S> as ClockSource {
     type Item = WorkingSample;
 
-    ghost whole = { λ s. clocked (s .bypassed) (s .line .step) (S·Source .whole (s .below)) };
+    ghost whole = { clock-whole (S·Source .whole) };
 
-    ghost left = { λ s. clocked-on (s .bypassed) (s .line) (S·Source .left (s .below)) };
+    ghost left = { clock-left (S·Source .left) };
 
     fn next(&mut self) -> Result<Option<WorkingSample>, Fault> {
         if self.bypassed {

@@ -1,5 +1,6 @@
 // A held item: one item of any kind, handed out a number of times.
 ghost use mathlib.Core.Path.{_≡_};
+ghost use Rattle.stages.specs.Meanings.{held-whole, held-left};
 ghost use Rattle.stages.specs.Wholes.{held};
 use source::fault::Fault;
 use source::source::Source;
@@ -15,8 +16,8 @@ pub struct Held<T> {
 impl<T: Copy> Held<T> {
     // The item `times` times, 0 to 2^32 - 1.
     pub fn new(item: T, times: u32) -> Self
-        ensures whole { λ r. ⌜ held (r .times) (r .item) ≡ held times item ⌝ }
-        ensures left { λ r. ⌜ held (r .remaining) (r .item) ≡ held times item ⌝ }
+        ensures whole { λ r. ⌜ held-whole r ≡ held times item ⌝ }
+        ensures left { λ r. ⌜ held-left r ≡ held times item ⌝ }
     {
         Held {
             item,
@@ -29,9 +30,9 @@ impl<T: Copy> Held<T> {
 pub impl<T: Copy> Source for Held<T> as HeldSource {
     type Item = T;
 
-    ghost whole = { λ s. held (s .times) (s .item) };
+    ghost whole = { held-whole };
 
-    ghost left = { λ s. held (s .remaining) (s .item) };
+    ghost left = { held-left };
 
     fn next(&mut self) -> Result<Option<T>, Fault> {
         if self.remaining == 0 {

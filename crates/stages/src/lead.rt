@@ -1,5 +1,6 @@
 // A lead: copies of a given item, then what is below.
 ghost use mathlib.Core.Path.{_≡_};
+ghost use Rattle.stages.specs.Meanings.{lead-whole, lead-left};
 ghost use Rattle.stages.specs.Wholes.{led};
 use source::fault::Fault;
 use source::source::Source;
@@ -16,8 +17,8 @@ pub struct Lead<S: Source> {
 impl<S: Source> Lead<S> {
     // The item `copies` times, 0 to 65535, then the whole below.
     pub fn new(copies: u16, item: S::Item, mut below: S) -> Self
-        ensures whole { λ r. ⌜ led (r .copies) (r .item) (S·Source .whole (r .below)) ≡ led copies item (S·Source .whole below) ⌝ }
-        ensures left { λ r. ⌜ led (r .remaining) (r .item) (S·Source .left (r .below)) ≡ led copies item (S·Source .whole below) ⌝ }
+        ensures whole { λ r. ⌜ lead-whole (S·Source .whole) r ≡ led copies item (S·Source .whole below) ⌝ }
+        ensures left { λ r. ⌜ lead-left (S·Source .left) r ≡ led copies item (S·Source .whole below) ⌝ }
     {
         below.rewind();
         Lead {
@@ -32,9 +33,9 @@ impl<S: Source> Lead<S> {
 pub impl<S: Source> Source for Lead<S> as LeadSource {
     type Item = S::Item;
 
-    ghost whole = { λ s. led (s .copies) (s .item) (S·Source .whole (s .below)) };
+    ghost whole = { lead-whole (S·Source .whole) };
 
-    ghost left = { λ s. led (s .remaining) (s .item) (S·Source .left (s .below)) };
+    ghost left = { lead-left (S·Source .left) };
 
     fn next(&mut self) -> Result<Option<S::Item>, Fault> {
         if self.remaining == 0 {

@@ -1,5 +1,6 @@
 // Noise: air samples whose level is the number of ones in a shifting state, near to a bell curve about 0.
 ghost use mathlib.Core.Path.{_≡_};
+ghost use Rattle.stages.specs.Meanings.{noise-whole, noise-left};
 ghost use Rattle.stages.specs.Noise.{stepped, level, noise};
 use crate::seeds::Seeds;
 use samples::kinds::AirSample;
@@ -36,8 +37,8 @@ pub struct Noise {
 impl Noise {
     // `count` samples, 0 to 2^32 - 1.
     pub fn new(seeds: Seeds, count: u32) -> Self
-        ensures whole { λ r. ⌜ noise (r .count) (r .seeds .re) (r .seeds .im) ≡ noise count (seeds .re) (seeds .im) ⌝ }
-        ensures left { λ r. ⌜ noise (r .remaining) (r .re) (r .im) ≡ noise count (seeds .re) (seeds .im) ⌝ }
+        ensures whole { λ r. ⌜ noise-whole r ≡ noise count (seeds .re) (seeds .im) ⌝ }
+        ensures left { λ r. ⌜ noise-left r ≡ noise count (seeds .re) (seeds .im) ⌝ }
     {
         Noise {
             seeds,
@@ -52,9 +53,9 @@ impl Noise {
 pub impl Source for Noise as NoiseSource {
     type Item = AirSample;
 
-    ghost whole = { λ s. noise (s .count) (s .seeds .re) (s .seeds .im) };
+    ghost whole = { noise-whole };
 
-    ghost left = { λ s. noise (s .remaining) (s .re) (s .im) };
+    ghost left = { noise-left };
 
     fn next(&mut self) -> Result<Option<AirSample>, Fault> {
         if self.remaining == 0 {

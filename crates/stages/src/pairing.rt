@@ -1,6 +1,7 @@
 // A pairing: two sources side by side, item by item. What is done with a pair is a stage over the pairing.
 ghost use mathlib.Core.Path.{_≡_};
-ghost use Rattle.stages.specs.Wholes.{paired, kept-before};
+ghost use Rattle.stages.specs.Meanings.{pairing-whole, pairing-left};
+ghost use Rattle.stages.specs.Wholes.{paired};
 use source::fault::Fault;
 use source::source::Source;
 
@@ -15,8 +16,8 @@ pub struct Pairing<A: Source, B> {
 impl<A: Source, B: Source> Pairing<A, B> {
     // Pairs as long as both sources last.
     pub fn new(mut first: A, mut second: B) -> Self
-        ensures whole { λ r. ⌜ paired (A·Source .whole (r .first)) (B·Source .whole (r .second)) ≡ paired (A·Source .whole first) (B·Source .whole second) ⌝ }
-        ensures left { λ r. ⌜ paired (kept-before (r .kept) (A·Source .left (r .first))) (B·Source .left (r .second)) ≡ paired (A·Source .whole first) (B·Source .whole second) ⌝ }
+        ensures whole { λ r. ⌜ pairing-whole (A·Source .whole) (B·Source .whole) r ≡ paired (A·Source .whole first) (B·Source .whole second) ⌝ }
+        ensures left { λ r. ⌜ pairing-left (A·Source .left) (B·Source .left) r ≡ paired (A·Source .whole first) (B·Source .whole second) ⌝ }
     {
         first.rewind();
         second.rewind();
@@ -31,9 +32,9 @@ impl<A: Source, B: Source> Pairing<A, B> {
 pub impl<A: Source, B: Source> Source for Pairing<A, B> as PairingSource {
     type Item = (A::Item, B::Item);
 
-    ghost whole = { λ s. paired (A·Source .whole (s .first)) (B·Source .whole (s .second)) };
+    ghost whole = { pairing-whole (A·Source .whole) (B·Source .whole) };
 
-    ghost left = { λ s. paired (kept-before (s .kept) (A·Source .left (s .first))) (B·Source .left (s .second)) };
+    ghost left = { pairing-left (A·Source .left) (B·Source .left) };
 
     fn next(&mut self) -> Result<Option<(A::Item, B::Item)>, Fault> {
         let x = match self.kept {
