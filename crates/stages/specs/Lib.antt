@@ -1,1 +1,4 @@
+pub mod Clock
+pub mod Meanings
+pub mod Noise
 pub mod Wholes
