@@ -1,0 +1,5 @@
+pub mod Changes
+pub mod Checks
+pub mod Decisions
+pub mod Fresh
+pub mod Refusals

@@ -1,0 +1,16 @@
+ghost use mathlib.Core.Path.{_≡_};
+ghost use Prim.Native.Nat.{_≤_};
+ghost use lib.ListN.{length};
+use impairments::path::Path;
+use impairments::path::PathDebug;
+use impairments::path::PathPartialEq;
+
+// The paths of a multipath channel: the first `count` of ten places, 1 to 10. The places behind are neutral paths.
+#[derive(Clone, Copy, Debug)]
+pub struct Paths {
+    pub places: [Path; 10],
+    pub count: usize,
+    ghost ten: { length places ≡ 10 },
+    ghost low: { 1 ≤ count },
+    ghost high: { count ≤ 10 },
+}
