@@ -20,11 +20,13 @@ both (no n) q = no (λ h. n (h .0))
 abbrev pub between : (a x b : ℕ) → Dec ((a ≤ x) × (x ≤ b))
 between a x b = both (decLe a x) (decLe x b)
 
-abbrev tested : (b : Bool) → Dec (T b)
+-- a test that came out true
+abbrev pub tested : (b : Bool) → Dec (T b)
 tested true = yes tt
 tested false = no (λ f. f)
 
-abbrev ordered : {a b : ℤ} → Dec (T (leZ a b)) → Dec (a ≤ℤ b)
+-- an order, by its test
+abbrev pub ordered : {a b : ℤ} → Dec (T (leZ a b)) → Dec (a ≤ℤ b)
 ordered (yes t) = yes (leZ-yes t)
 ordered (no n) = no (λ h. n (h .le))
 
@@ -43,7 +45,8 @@ checked-both (no n) e q make = Err e
 checked-both (yes p) e (Err f) make = Err f
 checked-both (yes p) e (Ok q) make = Ok (make p q)
 
-abbrev also : {P Q E : Type 0} → Dec P → E → Result Q E → Result (P × Q) E
+-- the two facts, or the refusal of the first that fails
+abbrev pub also : {P Q E : Type 0} → Dec P → E → Result Q E → Result (P × Q) E
 also (no n) e q = Err e
 also (yes p) e (Err f) = Err f
 also (yes p) e (Ok q) = Ok (p, q)

@@ -1,10 +1,18 @@
 // From plain numbers to the records that carry their ranges, or to a refusal.
 ghost use mathlib.Core.Path.{_≡_};
 ghost use Rattle.link.specs.Checks.{checked-scale, checked-gain, checked-clock, checked-frequency, checked-seeds};
+ghost use Rattle.link.specs.Lists.{checked-paths, checked-table};
+use crate::amplifier_table::AmplifierTable;
 use crate::frequency_offset::FrequencyOffset;
+use crate::neutral::full_entry;
+use crate::neutral::neutral_path;
+use crate::paths::Paths;
+use crate::paths::RawPath;
 use crate::refusal::SettingRefusal;
 use crate::scale::Scale;
+use impairments::entry::Entry;
 use impairments::gain::Gain;
+use impairments::path::Path;
 use stages::clock_offset::ClockOffset;
 use stages::seeds::Seeds;
 
@@ -59,4 +67,49 @@ pub(crate) fn checked_seeds(re: u32, im: u32) -> Result<Seeds, SettingRefusal>
         return Err(SettingRefusal::SeedZero);
     }
     Ok(Seeds { re, im })
+}
+
+// 1 to 10 paths, each with a delay of at most 63.
+pub(crate) fn checked_paths(given: &[RawPath]) -> Result<Paths, SettingRefusal>
+    ensures { λ r. ⌜ r ≡ checked-paths (now (given .entry)) ⌝ }
+{
+    let count = given.len();
+    if count < 1 || count > 10 {
+        return Err(SettingRefusal::PathOutside { path: 10 });
+    }
+    let mut places = [neutral_path(); 10];
+    for (i, p) in given.iter().enumerate() {
+        if p.delay > 63 {
+            return Err(SettingRefusal::PathOutside { path: i as u8 });
+        }
+        places[i] = Path {
+            re: p.re,
+            im: p.im,
+            delay: p.delay as u8,
+        };
+    }
+    Ok(Paths { places, count })
+}
+
+// 513 amplitudes of at most 32767, and 513 phases.
+pub(crate) fn checked_table(
+    amplitudes: &[u16],
+    phases: &[i16],
+) -> Result<AmplifierTable, SettingRefusal>
+    ensures { λ r. ⌜ r ≡ checked-table (now (amplitudes .entry)) (now (phases .entry)) ⌝ }
+{
+    if amplitudes.len() != 513 || phases.len() != 513 {
+        return Err(SettingRefusal::EntryOutside { entry: 513 });
+    }
+    let mut entries = [full_entry(); 513];
+    for (i, amplitude) in amplitudes.iter().enumerate() {
+        if *amplitude > 32767 {
+            return Err(SettingRefusal::EntryOutside { entry: i as u16 });
+        }
+        entries[i] = Entry {
+            amplitude: *amplitude,
+            phase: phases[i],
+        };
+    }
+    Ok(AmplifierTable { entries })
 }

@@ -2,18 +2,23 @@
 ghost use mathlib.Core.Path.{_≡_};
 ghost use Rattle.link.specs.Changes.{answer, after, offset, balance, with-scale, with-tx-dc, with-tx-imbalance, with-amplifier, with-amplifier-bypass, with-paths, with-frequency, with-clock, with-clock-bypass, with-gain, with-seeds, with-receive-gain, with-lead, with-rx-dc, with-rx-imbalance};
 ghost use Rattle.link.specs.Checks.{checked-scale, checked-frequency, checked-clock, checked-gain, checked-seeds, checked-receive-gain};
+ghost use Rattle.link.specs.Firsts.{PathsAnswer, TableAnswer};
 ghost use Rattle.link.specs.Fresh.{fresh};
+ghost use Rattle.link.specs.Lists.{checked-paths, checked-table};
 use crate::amplifier_table::AmplifierTable;
 use crate::checks::checked_clock;
 use crate::checks::checked_frequency;
 use crate::checks::checked_gain;
+use crate::checks::checked_paths;
 use crate::checks::checked_scale;
 use crate::checks::checked_seeds;
+use crate::checks::checked_table;
 use crate::frequency_offset::FrequencyOffset;
 use crate::neutral::full_table;
 use crate::neutral::one_path;
 use crate::neutral::unit_gain;
 use crate::paths::Paths;
+use crate::paths::RawPath;
 use crate::refusal::SettingRefusal;
 use crate::scale::Scale;
 use impairments::balance::Balance;
@@ -94,11 +99,37 @@ impl Settings {
         self.tx_imbalance = Balance { a, b, c };
     }
 
+    // The amplifier's table: 513 amplitudes, 0 to 32767, and 513 phases, 65536 a turn. Refusal 4 with an entry: 513 if
+    // a list is not 513 long, else the first whose amplitude is over 32767.
+    pub fn set_amplifier_table(
+        &mut self,
+        amplitudes: &[u16],
+        phases: &[i16],
+    ) -> Result<(), SettingRefusal>
+        ensures answers { λ r. ⌜ r ≡ answer (checked-table (now (amplitudes .entry)) (now (phases .entry))) ⌝ }
+        ensures leaves { λ _. ⌜ now (self .exit) ≡ after (checked-table (now (amplitudes .entry)) (now (phases .entry))) with-amplifier (now (self .entry)) ⌝ }
+        ensures first { λ r. ⌜ TableAnswer (now (amplitudes .entry)) (now (phases .entry)) r ⌝ }
+    {
+        self.amplifier = checked_table(amplitudes, phases)?;
+        Ok(())
+    }
+
     // Whether the amplifier is left out. Its table stays.
     pub fn set_amplifier_bypass(&mut self, bypass: bool)
         ensures { λ _. ⌜ now (self .exit) ≡ with-amplifier-bypass bypass (now (self .entry)) ⌝ }
     {
         self.amplifier_bypass = bypass;
+    }
+
+    // All paths, in place of those before. Refusal 3 with a path number: 10 if there are not 1 to 10 paths, else the
+    // first whose delay is over 63.
+    pub fn set_paths(&mut self, given: &[RawPath]) -> Result<(), SettingRefusal>
+        ensures answers { λ r. ⌜ r ≡ answer (checked-paths (now (given .entry))) ⌝ }
+        ensures leaves { λ _. ⌜ now (self .exit) ≡ after (checked-paths (now (given .entry))) with-paths (now (self .entry)) ⌝ }
+        ensures first { λ r. ⌜ PathsAnswer (now (given .entry)) r ⌝ }
+    {
+        self.paths = checked_paths(given)?;
+        Ok(())
     }
 
     // The frequency offset, in units of 2^-48 of a turn a sample. Refusal 7: outside -2^47 to 2^47 - 1.
