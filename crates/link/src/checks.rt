@@ -1,6 +1,8 @@
 // From plain numbers to the records that carry their ranges, or to a refusal.
 ghost use mathlib.Core.Path.{_≡_};
-ghost use Rattle.link.specs.Checks.{checked-scale, checked-gain, checked-clock, checked-frequency, checked-seeds};
+ghost use Prim.Native.Nat.{_≤_};
+ghost use Rattle.std.specs.Vec.{made};
+ghost use Rattle.link.specs.Checks.{checked-scale, checked-gain, checked-clock, checked-frequency, checked-seeds, checked-receive-gain};
 ghost use Rattle.link.specs.Lists.{checked-paths, checked-table};
 use crate::amplifier_table::AmplifierTable;
 use crate::frequency_offset::FrequencyOffset;
@@ -37,6 +39,17 @@ pub(crate) fn checked_gain(shift: i16, factor: u16) -> Result<Gain, SettingRefus
         shift: shift as i8,
         factor: factor as u8,
     })
+}
+
+// A gain for the index, which is 0 to 127.
+pub(crate) fn checked_receive_gain(index: u8, shift: i16, factor: u16) -> Result<Gain, SettingRefusal>
+    ensures value { λ r. ⌜ r ≡ checked-receive-gain index shift factor ⌝ }
+    ensures within { λ r. ⌜ made r (λ _. index ≤ 127) ⌝ }
+{
+    if index > 127 {
+        return Err(SettingRefusal::IndexOver);
+    }
+    checked_gain(shift, factor)
 }
 
 // At most a thousandth of 2^53, up or down.

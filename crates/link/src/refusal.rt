@@ -40,3 +40,44 @@ impl SettingRefusal {
         }
     }
 }
+
+pub impl fmt::Display for SettingRefusal as SettingRefusalDisplay {
+    fn fmt<W: fmt::Write>(&self, f: &mut fmt::Formatter<W>) -> fmt::Result {
+        match *self {
+            SettingRefusal::ScaleOutside => write!(f, "the scale factor must be 1 to 32767"),
+            SettingRefusal::GainOutside => write!(
+                f,
+                "a gain's shift must be -32 to 18 and its factor 128 to 255"
+            ),
+            SettingRefusal::PathOutside { path: 10 } => write!(f, "there must be 1 to 10 paths"),
+            SettingRefusal::PathOutside { path } => write!(
+                f,
+                "the delay of path {path} must be 0 to 63"
+            ),
+            SettingRefusal::EntryOutside { entry: 513 } => {
+                write!(
+                    f,
+                    "the amplifier's table must have 513 amplitudes and 513 phases"
+                )
+            },
+            SettingRefusal::EntryOutside { entry } => write!(
+                f,
+                "the amplitude of entry {entry} must be 0 to 32767"
+            ),
+            SettingRefusal::ClockOutside => {
+                write!(
+                    f,
+                    "the clock offset must be -9007199254740 to 9007199254740"
+                )
+            },
+            SettingRefusal::SeedZero => write!(f, "a noise seed must be 1 to 4294967295"),
+            SettingRefusal::FrequencyOutside => {
+                write!(
+                    f,
+                    "the frequency offset must be -140737488355328 to 140737488355327"
+                )
+            },
+            SettingRefusal::IndexOver => write!(f, "the index of a receive gain must be 0 to 127"),
+        }
+    }
+}

@@ -10,6 +10,7 @@ use crate::checks::checked_clock;
 use crate::checks::checked_frequency;
 use crate::checks::checked_gain;
 use crate::checks::checked_paths;
+use crate::checks::checked_receive_gain;
 use crate::checks::checked_scale;
 use crate::checks::checked_seeds;
 use crate::checks::checked_table;
@@ -27,19 +28,24 @@ use impairments::offset::Offset;
 use stages::clock_offset::ClockOffset;
 use stages::seeds::Seeds;
 
+// One plain struct, whose fields carry their own ranges. It is changed by the calls below, and a stage that is made from
+// it copies what it needs.
 #[derive(Clone, Copy)]
 pub struct Settings {
+    // Transmitter.
     pub scale: Scale,
     pub tx_dc: Offset,
     pub tx_imbalance: Balance,
     pub amplifier: AmplifierTable,
     pub amplifier_bypass: bool,
+    // Channel.
     pub paths: Paths,
     pub frequency: FrequencyOffset,
     pub clock: ClockOffset,
     pub clock_bypass: bool,
     pub gain: Gain,
     pub seeds: Seeds,
+    // Receiver: a gain index chooses one of the gains; so many items of index 0 stand before the indices.
     pub receive_gains: [Gain; 128],
     pub lead: u16,
     pub rx_dc: Offset,
@@ -47,7 +53,7 @@ pub struct Settings {
 }
 
 impl Settings {
-    // The settings to begin with: nothing but the noise changes the signal.
+    // The settings to begin with: every factor is 1, nothing is offset, the amplifier and the clock stage are left out.
     pub fn fresh() -> Self
         ensures { λ r. ⌜ r ≡ fresh ⌝ }
     {
@@ -185,10 +191,7 @@ impl Settings {
         ensures answers { λ r. ⌜ r ≡ answer (checked-receive-gain index shift factor) ⌝ }
         ensures leaves { λ _. ⌜ now (self .exit) ≡ after (checked-receive-gain index shift factor) (with-receive-gain index) (now (self .entry)) ⌝ }
     {
-        if index > 127 {
-            return Err(SettingRefusal::IndexOver);
-        }
-        self.receive_gains[index as usize] = checked_gain(shift, factor)?;
+        self.receive_gains[index as usize] = checked_receive_gain(index, shift, factor)?;
         Ok(())
     }
 
