@@ -42,7 +42,11 @@ pub(crate) fn checked_gain(shift: i16, factor: u16) -> Result<Gain, SettingRefus
 }
 
 // A gain for the index, which is 0 to 127.
-pub(crate) fn checked_receive_gain(index: u8, shift: i16, factor: u16) -> Result<Gain, SettingRefusal>
+pub(crate) fn checked_receive_gain(
+    index: u8,
+    shift: i16,
+    factor: u16,
+) -> Result<Gain, SettingRefusal>
     ensures value { λ r. ⌜ r ≡ checked-receive-gain index shift factor ⌝ }
     ensures within { λ r. ⌜ made r (λ _. index ≤ 127) ⌝ }
 {

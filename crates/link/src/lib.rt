@@ -11,3 +11,5 @@ pub mod paths;
 pub mod refusal;
 pub mod scale;
 pub mod settings;
+#[cfg(test)]
+mod tests;
