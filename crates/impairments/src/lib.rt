@@ -4,3 +4,5 @@ pub mod entry;
 pub mod gain;
 pub mod offset;
 pub mod path;
+mod product;
+pub mod scaling;

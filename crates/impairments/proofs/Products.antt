@@ -1,0 +1,34 @@
+-- The size of a product of two whole numbers, from theirs.
+use mathlib.Core.Path.{_≡_, refl}
+use Prim.Native.Nat.{ℕ, zero, suc, _*_, _^_, _≤_}
+use native.Mathlib.Omega.{arith}
+use lib.IntN.{ℤ, pos, negsuc, negℤ, _*ℤ_, natAbs}
+use Rattle.std.proofs.shelf.Signed.{ints}
+use Rattle.std.proofs.shelf.Bits.{mul-le}
+use Rattle.samples.specs.Arithmetic.{Within}
+
+natAbs-neg : (n : ℕ) → natAbs (negℤ (pos n)) ≡ n
+natAbs-neg zero = refl
+natAbs-neg (suc n) = refl
+
+natAbs-mul : (a b : ℤ) → natAbs (a *ℤ b) ≡ natAbs a * natAbs b
+natAbs-mul (pos a) (pos b) = refl
+natAbs-mul (pos a) (negsuc b) = natAbs-neg (a * suc b)
+natAbs-mul (negsuc a) (pos b) = natAbs-neg (suc a * b)
+natAbs-mul (negsuc a) (negsuc b) = refl
+
+word : (z : ℤ) → Within 32 z → natAbs z ≤ 2 ^ 31
+word (pos a) w = omega (arith, ints, w .0, w .1)
+word (negsuc a) w = omega (arith, ints, w .0, w .1)
+
+half : (z : ℤ) → Within 17 z → natAbs z ≤ 2 ^ 16
+half (pos a) w = omega (arith, ints, w .0, w .1)
+half (negsuc a) w = omega (arith, ints, w .0, w .1)
+
+back : (z : ℤ) → natAbs z ≤ 2 ^ 31 * 2 ^ 16 → Within 49 z
+back (pos a) h = (omega (arith, ints), omega (arith, ints))
+back (negsuc a) h = (omega (arith, ints), omega (arith, ints))
+
+-- 32 bits times 17 bits are 49 bits
+pub product-within : (a b : ℤ) → Within 32 a → Within 17 b → Within 49 (a *ℤ b)
+product-within a b p q = back (a *ℤ b) (rw natAbs-mul (mul-le (natAbs a) (natAbs b) (2 ^ 31) (2 ^ 16) (word a p) (half b q)))
