@@ -17,18 +17,18 @@ natAbs-mul (pos a) (negsuc b) = natAbs-neg (a * suc b)
 natAbs-mul (negsuc a) (pos b) = natAbs-neg (suc a * b)
 natAbs-mul (negsuc a) (negsuc b) = refl
 
-word : (z : ℤ) → Within 32 z → natAbs z ≤ 2 ^ 31
-word (pos a) w = omega (arith, ints, w .0, w .1)
-word (negsuc a) w = omega (arith, ints, w .0, w .1)
-
 half : (z : ℤ) → Within 17 z → natAbs z ≤ 2 ^ 16
 half (pos a) w = omega (arith, ints, w .0, w .1)
 half (negsuc a) w = omega (arith, ints, w .0, w .1)
 
-back : (z : ℤ) → natAbs z ≤ 2 ^ 31 * 2 ^ 16 → Within 49 z
+word : (z : ℤ) → Within 32 z → natAbs z ≤ 2 ^ 31
+word (pos a) w = omega (arith, ints, w .0, w .1)
+word (negsuc a) w = omega (arith, ints, w .0, w .1)
+
+back : (z : ℤ) → natAbs z ≤ 2 ^ 16 * 2 ^ 31 → Within 49 z
 back (pos a) h = (omega (arith, ints), omega (arith, ints))
 back (negsuc a) h = (omega (arith, ints), omega (arith, ints))
 
--- 32 bits times 17 bits are 49 bits
-pub product-within : (a b : ℤ) → Within 32 a → Within 17 b → Within 49 (a *ℤ b)
-product-within a b p q = back (a *ℤ b) (rw natAbs-mul (mul-le (natAbs a) (natAbs b) (2 ^ 31) (2 ^ 16) (word a p) (half b q)))
+-- 17 bits times 32 bits are 49 bits
+pub product-within : (a b : ℤ) → Within 17 a → Within 32 b → Within 49 (a *ℤ b)
+product-within a b p q = back (a *ℤ b) (rw natAbs-mul (mul-le (natAbs a) (natAbs b) (2 ^ 16) (2 ^ 31) (half a p) (word b q)))

@@ -1,7 +1,9 @@
 // What a radio link does to a signal: the formula of each stage.
 pub mod balance;
+pub mod dc;
 pub mod entry;
 pub mod gain;
+pub mod imbalance;
 pub mod offset;
 pub mod path;
 mod product;

@@ -30,7 +30,7 @@ fn scaled_part(factor: u16, x: i64) -> i64
     requires { ⌜ Within 32 x ⌝ }
     ensures { λ r. ⌜ r ≡ scaled-part factor x ⌝ }
 {
-    floor_shift(times(x, factor as i64), 8)
+    floor_shift(times(factor as i64, x), 8)
 }
 
 pub impl Mapping for Scaling as ScalingMapping {

@@ -10,13 +10,13 @@ pub mul-result : need.mul-result
 mul-result c =
     let x : SFits w64 (c .args .x) = c .fits .x in
     let f : SFits w64 (c .args .factor) = c .fits .factor in
-    let t = product-within (c .args .x) (c .args .factor) (c .pre .part) (c .pre .factor) in
+    let t = product-within (c .args .factor) (c .args .x) (c .pre .factor) (c .pre .part) in
     simp toZ-ofZ (omega (arith, ints, t .0, t .1))
 
 pub returns : need.returns
 returns c =
     let x : SFits w64 (c .args .x) = c .fits .x in
     let f : SFits w64 (c .args .factor) = c .fits .factor in
-    let t = product-within (c .args .x) (c .args .factor) (c .pre .part) (c .pre .factor) in
-    let r : SFits w64 (c .args .x *ℤ c .args .factor) = omega (arith, ints, t .0, t .1) in
+    let t = product-within (c .args .factor) (c .args .x) (c .pre .factor) (c .pre .part) in
+    let r : SFits w64 (c .args .factor *ℤ c .args .x) = omega (arith, ints, t .0, t .1) in
     record { value = simp toZ-ofZ; within = simp toZ-ofZ t }
