@@ -3,6 +3,9 @@ use mathlib.Core.Path.{_≡_, refl}
 use Prim.Native.Nat.{ℕ, zero, suc, _*_, _^_, _≤_}
 use native.Mathlib.Omega.{arith}
 use lib.IntN.{ℤ, pos, negsuc, negℤ, _*ℤ_, natAbs}
+use lib.Pow.{pow-mono}
+use mir.Syntax.{w64}
+use mir.Val.{SFits}
 use Rattle.std.proofs.shelf.Signed.{ints}
 use Rattle.std.proofs.shelf.Bits.{mul-le}
 use Rattle.samples.specs.Arithmetic.{Within}
@@ -32,3 +35,15 @@ back (negsuc a) h = (omega (arith, ints), omega (arith, ints))
 -- 17 bits times 32 bits are 49 bits
 pub product-within : (a b : ℤ) → Within 17 a → Within 32 b → Within 49 (a *ℤ b)
 product-within a b p q = back (a *ℤ b) (rw natAbs-mul (mul-le (natAbs a) (natAbs b) (2 ^ 16) (2 ^ 31) (half a p) (word b q)))
+
+long : (z : ℤ) → Within 49 z → natAbs z ≤ 2 ^ 48
+long (pos a) w = omega (arith, ints, w .0, w .1)
+long (negsuc a) w = omega (arith, ints, w .0, w .1)
+
+fits : (z : ℤ) → natAbs z ≤ 2 ^ 48 * 2 ^ 10 → SFits w64 z
+fits (pos a) h = omega (arith, ints)
+fits (negsuc a) h = omega (arith, ints)
+
+-- 49 bits, raised by up to 10 places, fit 64 bits
+pub raised-fits : (z : ℤ) (k : ℕ) → Within 49 z → k ≤ 10 → SFits w64 (z *ℤ pos (2 ^ k))
+raised-fits z k w h = fits (z *ℤ pos (2 ^ k)) (rw natAbs-mul (mul-le (natAbs z) (2 ^ k) (2 ^ 48) (2 ^ 10) (long z w) (pow-mono h)))

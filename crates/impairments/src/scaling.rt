@@ -12,7 +12,7 @@ use samples::sample::Sample;
 use stages::each::Mapping;
 
 // Each part times factor / 256, rounded down.
-#[derive(Clone, Copy, PartialEq, Eq, Debug)]
+#[derive(Clone, Copy)]
 pub struct Scaling {
     factor: u16,
 }
