@@ -1,11 +1,11 @@
 -- The laws of rounding and clipping, over the width.
 use mathlib.Core.Path.{_≡_}
-use Prim.Native.Nat.{ℕ, _-_, _/_, _^_, _<_, min}
+use Prim.Native.Nat.{ℕ, _-_, _/_, _^_, _≤_, _<_, min}
 use native.Mathlib.Omega.{arith}
 use native.Mathlib.Nat.{div-add-mod', mod-lt, suc-mul}
 use lib.IntN.{ℤ, pos, negsuc, _*ℤ_, _+ℤ_}
 use lib.Signed.{_≤ℤ_, _<ℤ_}
-use lib.Pow.{pow-pos}
+use lib.Pow.{pow-pos, pow-mono}
 use Rattle.std.proofs.shelf.Signed.{ints}
 use Rattle.samples.specs.Arithmetic.{floor-by, clip, Within}
 use Rattle.samples.specs.Laws.{Clips, Floors, clip-within}
@@ -19,6 +19,13 @@ ordered n (negsuc a) (negsuc b) h = omega (arith, ints)
 pub clip-same : (n : ℕ) (x : ℤ) → Within n x → clip n x ≡ x
 clip-same n (pos a) h = omega (arith, ints, h .0, h .1, pow-pos (n - 1))
 clip-same n (negsuc a) h = omega (arith, ints, h .0, h .1, pow-pos (n - 1))
+
+-- a number of m bits is one of more bits too
+pub wider : (m n : ℕ) (x : ℤ) → m ≤ n → Within m x → Within n x
+wider m n x h w =
+    let l : m - 1 ≤ n - 1 = omega arith in
+    let p : 2 ^ (m - 1) ≤ 2 ^ (n - 1) = pow-mono l in
+    (omega (arith, ints, w .0, w .1, pow-pos (m - 1)), omega (arith, ints, w .0, w .1, pow-pos (m - 1)))
 
 pub clips : (n : ℕ) → Clips n
 clips n = record { ordered = ordered n; same = clip-same n; within = clip-within n }

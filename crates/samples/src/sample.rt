@@ -1,6 +1,6 @@
 // What every kind of sample has in common.
 ghost use mathlib.Core.Path.{_≡_};
-ghost use Prim.Native.Nat.{ℕ};
+ghost use Prim.Native.Nat.{ℕ, _≤_};
 ghost use lib.IntN.{ℤ};
 ghost use Rattle.samples.specs.Arithmetic.{clip, Within};
 
@@ -13,6 +13,9 @@ pub trait Sample: Copy {
     ghost imaginary: { Self → ℤ };
     // the sample of two numbers, each moved to the nearest of its range
     ghost sample: { ℤ → ℤ → Self };
+
+    // so that 64 bits hold a part times any setting
+    law word: { bits ≤ 32 };
 
     law real_clipped: { (a b : ℤ) → real (sample a b) ≡ clip bits a };
 
