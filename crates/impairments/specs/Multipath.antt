@@ -18,7 +18,7 @@ silent = record { re = pos 0; im = pos 0 }
 
 -- the paths that count
 abbrev pub used : Paths → List Path
-used p = take (p .count) (p .list)
+used p = take (p .count) (p .places)
 
 -- coefficient times sample
 abbrev pub echo-re : Path → WorkingSample → ℤ

@@ -76,7 +76,7 @@ impl Multipath {
     {
         let mut re: i64 = 0;
         let mut im: i64 = 0;
-        for (i, path) in self.paths.list.iter().enumerate() {
+        for (i, path) in self.paths.places.iter().enumerate() {
             if i >= self.paths.count {
                 break;
             }

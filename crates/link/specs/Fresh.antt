@@ -6,12 +6,12 @@ use lib.IntN.{pos}
 use lib.ListN.{replicate, length-replicate}
 use lib.Signed.{leZ-yes}
 use Rattle.impairments.specs.declared.balance.Balance.{Balance}
-use Rattle.impairments.specs.declared.entry.Entry.{Entry}
+use Rattle.turns.specs.declared.entry.Entry.{Entry}
 use Rattle.impairments.specs.declared.gain.Gain.{Gain}
 use Rattle.impairments.specs.declared.offset.Offset.{Offset}
 use Rattle.impairments.specs.declared.path.Path.{Path}
-use Rattle.link.specs.declared.amplifier_table.AmplifierTable.{AmplifierTable}
-use Rattle.link.specs.declared.paths.Paths.{Paths}
+use Rattle.turns.specs.declared.table.AmplifierTable.{AmplifierTable}
+use Rattle.impairments.specs.declared.paths.Paths.{Paths}
 use Rattle.link.specs.declared.settings.Settings.{Settings}
 
 -- no offset

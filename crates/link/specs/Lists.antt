@@ -8,10 +8,10 @@ use lib.IntN.{ℤ}
 use lib.ListN.{length, replicate, length-append, length-replicate}
 use Rattle.std.specs.declared.result.Result.{Result}
 use Rattle.std.specs.shelf.Lists.{All}
-use Rattle.impairments.specs.declared.entry.Entry.{Entry}
+use Rattle.turns.specs.declared.entry.Entry.{Entry}
 use Rattle.impairments.specs.declared.path.Path.{Path}
-use Rattle.link.specs.declared.amplifier_table.AmplifierTable.{AmplifierTable}
-use Rattle.link.specs.declared.paths.Paths.{Paths}
+use Rattle.turns.specs.declared.table.AmplifierTable.{AmplifierTable}
+use Rattle.impairments.specs.declared.paths.Paths.{Paths}
 use Rattle.link.specs.declared.paths.RawPath.{RawPath}
 use Rattle.link.specs.declared.refusal.SettingRefusal.{SettingRefusal}
 use Rattle.link.specs.declared.refusal.SettingRefusal.the-variants.{PathOutside, EntryOutside}

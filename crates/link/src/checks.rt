@@ -4,19 +4,19 @@ ghost use Prim.Native.Nat.{_≤_};
 ghost use Rattle.std.specs.Vec.{made};
 ghost use Rattle.link.specs.Checks.{checked-scale, checked-gain, checked-clock, checked-frequency, checked-seeds, checked-receive-gain};
 ghost use Rattle.link.specs.Lists.{checked-paths, checked-table};
-use crate::amplifier_table::AmplifierTable;
 use crate::frequency_offset::FrequencyOffset;
 use crate::neutral::full_entry;
 use crate::neutral::neutral_path;
-use crate::paths::Paths;
 use crate::paths::RawPath;
 use crate::refusal::SettingRefusal;
 use crate::scale::Scale;
-use impairments::entry::Entry;
 use impairments::gain::Gain;
 use impairments::path::Path;
+use impairments::paths::Paths;
 use stages::clock_offset::ClockOffset;
 use stages::seeds::Seeds;
+use turns::entry::Entry;
+use turns::table::AmplifierTable;
 
 // 1 to 32767.
 pub(crate) fn checked_scale(factor: u16) -> Result<Scale, SettingRefusal>

@@ -3,7 +3,6 @@
 // Proved of the settings: fresh ones are as published; a setting call is refused exactly when a number is outside its
 // range, with the number of the refusal and its place, and then leaves the settings as they were; otherwise what it was
 // given stands in the settings and nothing else has changed.
-pub mod amplifier_table;
 mod checks;
 pub mod frequency_offset;
 mod neutral;

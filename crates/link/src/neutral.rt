@@ -1,11 +1,11 @@
 // Settings that change nothing.
 ghost use mathlib.Core.Path.{_≡_};
 ghost use Rattle.link.specs.Fresh.{neutral-path, unit-gain, full-entry, full-table, one-path};
-use crate::amplifier_table::AmplifierTable;
-use crate::paths::Paths;
-use impairments::entry::Entry;
 use impairments::gain::Gain;
 use impairments::path::Path;
+use impairments::paths::Paths;
+use turns::entry::Entry;
+use turns::table::AmplifierTable;
 
 // The signal itself: coefficient 1, no delay.
 pub(crate) fn neutral_path() -> Path

@@ -5,7 +5,6 @@ ghost use Rattle.link.specs.Checks.{checked-scale, checked-frequency, checked-
 ghost use Rattle.link.specs.Firsts.{PathsAnswer, TableAnswer};
 ghost use Rattle.link.specs.Fresh.{fresh};
 ghost use Rattle.link.specs.Lists.{checked-paths, checked-table};
-use crate::amplifier_table::AmplifierTable;
 use crate::checks::checked_clock;
 use crate::checks::checked_frequency;
 use crate::checks::checked_gain;
@@ -18,15 +17,16 @@ use crate::frequency_offset::FrequencyOffset;
 use crate::neutral::full_table;
 use crate::neutral::one_path;
 use crate::neutral::unit_gain;
-use crate::paths::Paths;
 use crate::paths::RawPath;
 use crate::refusal::SettingRefusal;
 use crate::scale::Scale;
 use impairments::balance::Balance;
 use impairments::gain::Gain;
 use impairments::offset::Offset;
+use impairments::paths::Paths;
 use stages::clock_offset::ClockOffset;
 use stages::seeds::Seeds;
+use turns::table::AmplifierTable;
 
 // One plain struct, whose fields carry their own ranges. It is changed by the calls below, and a stage that is made from
 // it copies what it needs.

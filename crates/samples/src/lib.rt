@@ -4,9 +4,11 @@
 // sample 32, all signed; a gain index is 0 to 127. The ranges stand in the types.
 //
 // Proved: every maker moves each number to the nearest one of its range; over every width, clipping keeps order, leaves
-// numbers in range alone and ends in range; rounding is towards minus infinity.
+// numbers in range alone and ends in range; rounding is towards minus infinity; the table of cosines keeps the rule of
+// halving, and every phasor is made of it by the quarter that it lies in.
 pub mod arithmetic;
 pub mod converter;
 pub mod gain_index;
 pub mod kinds;
+pub mod phasor;
 pub mod sample;

@@ -9,7 +9,7 @@ use borrow.Author.Needs.{needs}
 use Rattle.std.proofs.shelf.Elements.{every-more, every-upto}
 use Rattle.std.proofs.shelf.Lists.{append-nil}
 use Rattle.std.proofs.shelf.Signed.{toZ-ofZ}
-use Rattle.impairments.specs.declared.entry.Entry.{Entry}
+use Rattle.turns.specs.declared.entry.Entry.{Entry}
 use Rattle.link.specs.Lists.{Amplitude}
 use Rattle.link.proofs.Filled.{at-place, filled-full, part-more}
 use Rattle.link.proofs.Listed.{table-made, high-amplitude}

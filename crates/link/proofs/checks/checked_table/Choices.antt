@@ -3,7 +3,7 @@ use mathlib.Core.Path.{_≡_}
 use lib.IntN.{pos}
 use lib.ListN.{length}
 use Rattle.std.specs.Places.{Every}
-use Rattle.impairments.specs.declared.entry.Entry.{Entry}
+use Rattle.turns.specs.declared.entry.Entry.{Entry}
 use Rattle.link.specs.Lists.{Amplitude}
 use Rattle.link.proofs.Filled.{filled}
 use Rattle.link.proofs.checks.checked_table.Given as given

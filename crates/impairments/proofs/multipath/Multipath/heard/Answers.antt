@@ -34,7 +34,7 @@ pub loop-i-again : need.loop-i-again
 loop-i-again c =
     let s = c .args .self .now in
     let x = ring (s .«echo_line») (s .newest) in
-    let ps = s .paths .list in
+    let ps = s .paths .places in
     let d = c .path-item .result in
     let i : c .loop-i .i < 10 = omega arith in
     let ten : length ps ≡ 10 = s .paths .ten in
@@ -55,6 +55,6 @@ returns c =
     let f : SFits w64 (c .floor-shift .result) = record { sfits = c .floor-shift .ok } in
     let g : SFits w64 (c .floor-shift-2 .result) = record { sfits = c .floor-shift-2 .ok } in
     let n : c .new .result ≡ working (c .floor-shift .result) (c .floor-shift-2 .result) = simp toZ-ofZ at (c .new .ensures) in
-    let re = c .floor-shift .ensures .value ∙ ap (λ (z : ℤ). floor-by z (2 ^ 13)) (c .loop-i .inv .1 .value) ∙ ap (λ (k : ℕ). floor-by (total-re (take k (s .paths .list)) x) (2 ^ 13)) all in
-    let im = c .floor-shift-2 .ensures .value ∙ ap (λ (z : ℤ). floor-by z (2 ^ 13)) (c .loop-i .inv .2 .value) ∙ ap (λ (k : ℕ). floor-by (total-im (take k (s .paths .list)) x) (2 ^ 13)) all in
+    let re = c .floor-shift .ensures .value ∙ ap (λ (z : ℤ). floor-by z (2 ^ 13)) (c .loop-i .inv .1 .value) ∙ ap (λ (k : ℕ). floor-by (total-re (take k (s .paths .places)) x) (2 ^ 13)) all in
+    let im = c .floor-shift-2 .ensures .value ∙ ap (λ (z : ℤ). floor-by z (2 ^ 13)) (c .loop-i .inv .2 .value) ∙ ap (λ (k : ℕ). floor-by (total-im (take k (s .paths .places)) x) (2 ^ 13)) all in
     n ∙ ap₂ working re im

@@ -1,8 +1,9 @@
+// The table of an amplifier.
 ghost use mathlib.Core.Path.{_≡_};
 ghost use lib.ListN.{length};
-use impairments::entry::Entry;
+use crate::entry::Entry;
 
-// An amplifier's table: entry q is for the magnitude 64 × q, 0 to 32768.
+// The entries for the magnitudes 0, 64, 128 .. 32768.
 #[derive(Clone, Copy)]
 pub struct AmplifierTable {
     pub entries: [Entry; 513],

@@ -1,0 +1,3 @@
+pub mod Interpolations
+pub mod PhaseSteps
+pub mod Turning

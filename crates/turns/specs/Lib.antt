@@ -1,0 +1,3 @@
+pub mod Amplifier
+pub mod Frequency
+pub mod Turns
