@@ -1,2 +1,4 @@
+pub mod Back
+pub mod Overwriting
 pub mod Reading
 pub mod Walks

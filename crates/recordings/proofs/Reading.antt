@@ -27,7 +27,7 @@ shifted meaning a d j (suc n) =
     cc
 
 -- the first item, and the items behind it
-peeled : {T : Type 0} (meaning : List ℕ → Option T) (a : ℕ) (d : List ℕ) (n m : ℕ) → n ≡ suc m → tabulate (item-at meaning a d) 0 n ≡ meaning (take a d) ∷ tabulate (item-at meaning a (drop a d)) 0 m
+pub peeled : {T : Type 0} (meaning : List ℕ → Option T) (a : ℕ) (d : List ℕ) (n m : ℕ) → n ≡ suc m → tabulate (item-at meaning a d) 0 n ≡ meaning (take a d) ∷ tabulate (item-at meaning a (drop a d)) 0 m
 peeled meaning a d n m h =
     let z : item-at meaning a d 0 ≡ meaning (take a d) = ap (λ (k : ℕ). meaning (take a (drop k d))) (zero-mul a) in
     let xs = shifted meaning a d 0 m in

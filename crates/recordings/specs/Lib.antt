@@ -3,3 +3,4 @@ pub mod Chunks
 pub mod Items
 pub mod Opening
 pub mod Refusals
+pub mod Writing

@@ -6,6 +6,7 @@ ghost use Rattle.std.specs.declared.option.Option.{Option};
 ghost use Rattle.recordings.specs.declared.format.Format.{Format};
 ghost use Rattle.source.specs.declared.fault.FaultKind.{FaultKind};
 ghost use Rattle.source.specs.declared.fault.FaultKind.the-variants.{LowBits, GainOver};
+ghost use Rattle.recordings.specs.Opening.{signal-format, gain-format};
 ghost use Rattle.recordings.specs.Items.{part-of, signal-item, gain-item};
 use crate::bytes::u16_at;
 use crate::format::Format;
@@ -60,7 +61,7 @@ fn part_of(word: u16) -> i64
 pub impl Layout for Signal as SignalLayout {
     type Item = ConverterSample;
 
-    ghost fixed = { record { channels = 2; align = 4; bits = 12 } };
+    ghost fixed = { signal-format };
 
     ghost meaning = { signal-item };
 
@@ -94,7 +95,7 @@ pub impl Layout for Signal as SignalLayout {
 pub impl Layout for Gains as GainsLayout {
     type Item = GainIndex;
 
-    ghost fixed = { record { channels = 1; align = 1; bits = 8 } };
+    ghost fixed = { gain-format };
 
     ghost meaning = { gain-item };
 

@@ -5,7 +5,9 @@
 // of the writer; and the round trips: what was put in comes out, and what we wrote stays as it is when it is rewritten.
 pub mod bytes;
 pub mod chunks;
+pub mod encoding;
 pub mod format;
 pub mod layout;
 pub mod recording;
 pub mod refusal;
+pub mod started;
