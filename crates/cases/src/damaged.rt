@@ -6,7 +6,12 @@ use std::fs;
 
 fn compare_line(rt: &LibcRuntime, line: &str, tally: &mut Tally) -> Result<(), AnyError> {
     let mut words = line.split_whitespace();
-    let (Some(file), Some(kind), Some(number), Some(place)) = (words.next(), words.next(), words.next(), words.next()) else {
+    let (Some(file), Some(kind), Some(number), Some(place)) = (
+        words.next(),
+        words.next(),
+        words.next(),
+        words.next(),
+    ) else {
         return Err("a line of the damaged files has four words".into());
     };
     let heap = rt.alloc();

@@ -5,6 +5,7 @@ mod builder;
 mod damaged;
 mod opening;
 mod table;
+mod writing;
 
 use std::error::AnyError;
 use table::Section;
@@ -13,6 +14,7 @@ use table::Tally;
 fn run(rt: &LibcRuntime) -> Result<(), AnyError> {
     let mut tally = Tally::new();
     table::compare(rt, "openings.txt", Section::Opening, &mut tally)?;
+    table::compare(rt, "writings.txt", Section::Writing, &mut tally)?;
     damaged::compare(rt, "expected.txt", &mut tally)?;
     tally.close(rt)
 }

@@ -35,7 +35,7 @@ impl Shown for GainIndex as GainShown {
 }
 
 // Adds the items that the source hands out, and its ending.
-fn show_items<S: Source>(source: &mut S, text: &mut String) -> Result<(), AnyError>
+fn show_items<S: Source + Drop>(mut source: S, text: &mut String) -> Result<(), AnyError>
 where
     S::Item: Shown,
 {
@@ -53,21 +53,16 @@ where
     Ok(())
 }
 
-fn show_recording<'a, L: Layout>(mut recording: Recording<'a, L>, text: &mut String) -> Result<(), AnyError>
-where
-    L::Item: Shown,
-{
-    let rate = recording.rate();
-    write!(text, "rate {rate}:")?;
-    show_items(&mut recording, text)
-}
-
 fn opened_as<'a, L: Layout>(bytes: &'a [u8], text: &mut String) -> Result<(), AnyError>
 where
     L::Item: Shown,
 {
     match Recording::<'a, L>::open(bytes, 0) {
-        Ok(recording) => show_recording(recording, text),
+        Ok(recording) => {
+            let rate = recording.rate();
+            write!(text, "rate {rate}:")?;
+            show_items(recording, text)
+        }
         Err(refusal) => {
             let number = refusal.number();
             let place = refusal.place();

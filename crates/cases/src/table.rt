@@ -1,5 +1,6 @@
 // Tables of cases: a line for each, `name | what | of what | answer`.
 use crate::opening;
+use crate::writing;
 use std::alloc::Global;
 use std::error::AnyError;
 use std::fs;
@@ -8,6 +9,7 @@ use std::fs;
 #[derive(Clone, Copy)]
 pub enum Section {
     Opening,
+    Writing,
 }
 
 // How many cases were compared, and how many of them differ.
@@ -27,7 +29,13 @@ impl Tally {
     }
 
     // Compares the answer with what it should be, and prints a line.
-    pub fn compare(&mut self, rt: &LibcRuntime, name: &str, expected: &str, answer: &str) -> Result<(), AnyError> {
+    pub fn compare(
+        &mut self,
+        rt: &LibcRuntime,
+        name: &str,
+        expected: &str,
+        answer: &str,
+    ) -> Result<(), AnyError> {
         self.cases = self.cases.saturating_add(1);
         if alike(answer, expected) {
             println!(rt, "  {name}: ok")?;
@@ -54,12 +62,23 @@ impl Tally {
 fn answer(heap: Global, section: Section, what: &str, of_what: &str) -> Result<String, AnyError> {
     match section {
         Section::Opening => opening::answer(heap, what, of_what),
+        Section::Writing => writing::answer(heap, what, of_what),
     }
 }
 
-fn compare_line(rt: &LibcRuntime, section: Section, line: &str, tally: &mut Tally) -> Result<(), AnyError> {
+fn compare_line(
+    rt: &LibcRuntime,
+    section: Section,
+    line: &str,
+    tally: &mut Tally,
+) -> Result<(), AnyError> {
     let mut columns = line.split('|');
-    let (Some(name), Some(what), Some(of_what), Some(expected)) = (columns.next(), columns.next(), columns.next(), columns.next()) else {
+    let (Some(name), Some(what), Some(of_what), Some(expected)) = (
+        columns.next(),
+        columns.next(),
+        columns.next(),
+        columns.next(),
+    ) else {
         return Err("a line of a table has four columns".into());
     };
     let found = answer(rt.alloc(), section, what.trim(), of_what.trim())?;
@@ -67,7 +86,12 @@ fn compare_line(rt: &LibcRuntime, section: Section, line: &str, tally: &mut Tall
 }
 
 // Compares every line of the table in the file; an empty line and one that begins with # is none.
-pub fn compare(rt: &LibcRuntime, file: &str, section: Section, tally: &mut Tally) -> Result<(), AnyError> {
+pub fn compare(
+    rt: &LibcRuntime,
+    file: &str,
+    section: Section,
+    tally: &mut Tally,
+) -> Result<(), AnyError> {
     let text = fs::read_to_string(rt, file)?;
     println!(rt, "{file}")?;
     for line in text.lines() {

@@ -40,11 +40,15 @@ pub fn parse(words: &[String]) -> Result<Command<'_>, Failure<'_>> {
         return Ok(Command::Demonstrate);
     };
     match (command.as_str(), words) {
-        ("check", [_, as_what, file]) => Ok(Command::Check(kind_of(as_what.as_str())?, file.as_str())),
+        ("check", [_, as_what, file]) => Ok(Command::Check(
+            kind_of(as_what.as_str())?,
+            file.as_str(),
+        )),
         ("check", _) => Err(Failure::WrongCount("check signal|gain FILE")),
         (unknown, _) => Err(Failure::UnknownCommand(unknown)),
     }
 }
+
 pub impl fmt::Display for Kind as KindDisplay {
     fn fmt<W: fmt::Write>(&self, f: &mut fmt::Formatter<W>) -> fmt::Result {
         match *self {

@@ -41,7 +41,11 @@ fn examine<'a, L: Layout>(bytes: &'a [u8]) -> Result<Summary, OpeningRefusal> {
     let mut recording: Recording<'a, L> = Recording::open(bytes, 0)?;
     let (items, ending) = count(&mut recording);
     let rate = recording.rate();
-    Ok(Summary { rate, items, ending })
+    Ok(Summary {
+        rate,
+        items,
+        ending,
+    })
 }
 
 pub fn check<'a>(rt: &LibcRuntime, kind: Kind, file: &'a str) -> Result<(), Failure<'a>> {
@@ -54,17 +58,26 @@ pub fn check<'a>(rt: &LibcRuntime, kind: Kind, file: &'a str) -> Result<(), Fail
         Kind::Gain => examine::<Gains>(bytes.as_slice()),
     };
     match opened {
-        Ok(Summary { rate, items, ending }) => {
-            print!(rt, "{file}: {kind} recording, rate {rate}, {items} samples, ")?;
-    match ending {
-        Ending::Finished => println!(rt, "finished")?,
-        Ending::Faulted(fault) => {
-            let number = fault.kind.number();
-            let item = fault.item;
-            println!(rt, "then fault {number} at item {item}")?;
-        }
-    }
-    Ok(())
+        Ok(
+            Summary {
+                rate,
+                items,
+                ending,
+            },
+        ) => {
+            print!(
+                rt,
+                "{file}: {kind} recording, rate {rate}, {items} samples, "
+            )?;
+            match ending {
+                Ending::Finished => println!(rt, "finished")?,
+                Ending::Faulted(fault) => {
+                    let number = fault.kind.number();
+                    let item = fault.item;
+                    println!(rt, "then fault {number} at item {item}")?;
+                }
+            }
+            Ok(())
         },
         Err(refusal) => Err(Failure::Refused(file, refusal)),
     }

@@ -26,7 +26,10 @@ pub impl<'a> fmt::Display for Failure<'a> as FailureDisplay {
     fn fmt<W: fmt::Write>(&self, f: &mut fmt::Formatter<W>) -> fmt::Result {
         match self {
             Failure::UnknownCommand(word) => write!(f, "there is no command '{word}'"),
-            Failure::UnknownKind(word) => write!(f, "a recording is 'signal' or 'gain', not '{word}'"),
+            Failure::UnknownKind(word) => write!(
+                f,
+                "a recording is 'signal' or 'gain', not '{word}'"
+            ),
             Failure::WrongCount(form) => write!(f, "expected: tigwedan {form}"),
             Failure::Reading(file, error) => write!(f, "{file}: cannot be read: {error}"),
             Failure::Refused(file, refusal) => {
