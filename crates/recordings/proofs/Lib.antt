@@ -1,4 +1,7 @@
 pub mod Back
+pub mod Filling
 pub mod Overwriting
 pub mod Reading
+pub mod Rewriting
+pub mod Sittings
 pub mod Walks

@@ -5,7 +5,7 @@ use mathlib.Core.List.{List, [], _∷_, _++_, append-assoc}
 use Prim.Native.Nat.{ℕ, zero, suc, _+_, _-_, _*_, _≤_, _<_}
 use native.Mathlib.Omega.{arith}
 use lib.ListN.{length, take, drop}
-use Rattle.std.proofs.shelf.Lists.{length-append, length-take-le, length-push, take-at, drop-at, drop-drop, take-append-drop, joined-more}
+use Rattle.std.proofs.shelf.Lists.{length-append, length-take-le, length-drop, length-push, take-at, drop-at, drop-drop, take-append-drop, joined-more}
 use Rattle.std.proofs.shelf.Ways.{tells}
 use Rattle.std.specs.Joined.{joined}
 use Rattle.samples.specs.declared.converter.ConverterSample.{ConverterSample}
@@ -65,3 +65,12 @@ finishes b n room short rate xs l good h =
     ∙ ap (λ (k : ℕ). header rate (size-of k - 8) (4 * k) ++ joined coded xs) (sym l) in
     let out : Hands-out (recorded rate xs) rate xs = hands-out rate xs good (omega arith) in
     (whole, λ input. ap (signal-opening input) whole ∙ out input)
+
+-- a write within the bytes keeps their number
+pub overwrite-length : (s : ℕ) (xs b : List ℕ) → s + length xs ≤ length b → length (overwrite s xs b) ≡ length b
+overwrite-length s xs b h =
+    let l = length-append (take s b) (xs ++ drop (s + length xs) b) in
+    let m = length-append xs (drop (s + length xs) b) in
+    let t = length-take-le s b (omega arith) in
+    let d = length-drop (s + length xs) b in
+    omega arith

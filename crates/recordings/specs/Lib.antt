@@ -3,4 +3,5 @@ pub mod Chunks
 pub mod Items
 pub mod Opening
 pub mod Refusals
+pub mod Sessions
 pub mod Writing

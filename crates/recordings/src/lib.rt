@@ -10,4 +10,5 @@ pub mod format;
 pub mod layout;
 pub mod recording;
 pub mod refusal;
+pub mod session;
 pub mod started;

@@ -3,6 +3,7 @@ ghost use mathlib.Core.Path.{_≡_};
 ghost use Prim.Native.Nat.{_-_};
 ghost use denote.Ref.{now};
 ghost use Rattle.std.specs.Results.{Cases};
+ghost use Rattle.std.specs.Vec.{made};
 ghost use Rattle.std.specs.declared.result.Result.the-variants.{Ok, Err};
 ghost use Rattle.recordings.specs.Items.{held-from};
 ghost use Rattle.recordings.specs.Opening.{opening};
@@ -30,7 +31,7 @@ impl<'a, L: Layout> Recording<'a, L> {
     // Opens the bytes as a recording of the kind L; its faults will name it by the input number.
     pub fn open(bytes: &'a [u8], input: u8) -> Result<Self, OpeningRefusal>
         ensures answer { λ r. ⌜ Cases r (λ x. opening (L·Layout .fixed) (L·Layout .meaning) (L·Layout .spoilt) input (now (bytes .entry)) ≡ Ok (record { rate = x .rate; whole = held-from (L·Layout .meaning) (L·Layout .fixed .align) (L·Layout .spoilt) (x .input) 0 (x .count) (x .data .now) })) (λ e. opening (L·Layout .fixed) (L·Layout .meaning) (L·Layout .spoilt) input (now (bytes .entry)) ≡ Err e) ⌝ }
-        ensures start { λ r. ⌜ Cases r (λ x. (x .place ≡ 0) × (x .rest .now ≡ x .data .now)) (λ _. Unit {0}) ⌝ }
+        ensures left { λ r. ⌜ made r (λ x. held-from (L·Layout .meaning) (L·Layout .fixed .align) (L·Layout .spoilt) (x .input) (x .place) (x .count - x .place) (x .rest .now) ≡ held-from (L·Layout .meaning) (L·Layout .fixed .align) (L·Layout .spoilt) (x .input) 0 (x .count) (x .data .now)) ⌝ }
     {
         let format = L::format();
         match find_data(bytes, format) {

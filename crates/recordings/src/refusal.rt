@@ -134,3 +134,12 @@ pub impl fmt::Display for WritingRefusal as WritingRefusalDisplay {
         }
     }
 }
+
+// Why a recording is not rewritten.
+#[derive(Clone, Copy, PartialEq, Eq, Debug)]
+pub enum RewritingRefusal {
+    // The bytes do not open.
+    Opening(OpeningRefusal),
+    // The buffer is not written.
+    Writing(WritingRefusal),
+}

@@ -11,7 +11,7 @@ use crate::encoding::place;
 use crate::refusal::WritingRefusal;
 use samples::converter::ConverterSample;
 
-const HEADER: usize = 44;
+pub(crate) const HEADER: usize = 44;
 
 const MAX_BYTES: usize = 65536;
 
