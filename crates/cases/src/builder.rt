@@ -2,7 +2,8 @@
 //
 // `"abcd"` stands for its letters (`_` for a space), `w7` and `d7` for a number in 16 and 32 bits, the lowest byte first,
 // `x0AFF` for bytes in hexadecimal, and `length` for the number of all bytes less 8, in 32 bits (`length+1` and
-// `length-1` are one off). `head`, `signal` and `gain` are the head, and the format chunk of each kind at rate 8000.
+// `length-1` are one off). `head`, `signal` and `gain` are the head, and the format chunk of each kind at rate 8000. A
+// word behind which `*5` stands comes five times.
 use std::alloc::Global;
 use std::error::AnyError;
 
@@ -83,6 +84,16 @@ impl Builder {
         }
     }
 
+    fn repeated(&mut self, word: &str) -> Result<(), AnyError> {
+        let Some((once, times)) = word.split_once('*') else {
+            return self.word(word);
+        };
+        for _ in 0..times.parse::<u32>()? {
+            self.word(once)?;
+        }
+        Ok(())
+    }
+
     fn finish(self) -> Result<Vec<u8>, AnyError> {
         let Builder {
             mut bytes,
@@ -103,7 +114,7 @@ impl Builder {
 }
 
 // The byte string that the words spell.
-pub fn bytes(heap: Global, words: &str) -> Result<Vec<u8>, AnyError> {
+pub(crate) fn bytes(heap: Global, words: &str) -> Result<Vec<u8>, AnyError> {
     let mut builder = Builder {
         bytes: Vec::new(heap),
         length_at: 0,
@@ -111,7 +122,7 @@ pub fn bytes(heap: Global, words: &str) -> Result<Vec<u8>, AnyError> {
     };
     for word in words.split_whitespace() {
         for part in spelled(word).split_whitespace() {
-            builder.word(part)?;
+            builder.repeated(part)?;
         }
     }
     builder.finish()

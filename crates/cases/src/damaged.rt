@@ -21,7 +21,7 @@ fn compare_line(rt: &LibcRuntime, line: &str, tally: &mut Tally) -> Result<(), A
     tally.compare(rt, file, expected.as_str(), found.as_str())
 }
 
-pub fn compare(rt: &LibcRuntime, file: &str, tally: &mut Tally) -> Result<(), AnyError> {
+pub(crate) fn compare(rt: &LibcRuntime, file: &str, tally: &mut Tally) -> Result<(), AnyError> {
     let text = fs::read_to_string(rt, file)?;
     println!(rt, "{file}")?;
     for line in text.lines() {

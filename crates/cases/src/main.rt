@@ -4,6 +4,7 @@
 mod builder;
 mod damaged;
 mod opening;
+mod rewriting;
 mod table;
 mod writing;
 
@@ -15,6 +16,7 @@ fn run(rt: &LibcRuntime) -> Result<(), AnyError> {
     let mut tally = Tally::new();
     table::compare(rt, "openings.txt", Section::Opening, &mut tally)?;
     table::compare(rt, "writings.txt", Section::Writing, &mut tally)?;
+    table::compare(rt, "rewritings.txt", Section::Rewriting, &mut tally)?;
     damaged::compare(rt, "expected.txt", &mut tally)?;
     tally.close(rt)
 }

@@ -7,6 +7,7 @@ use recordings::layout::Signal;
 use recordings::layout::SignalLayout;
 use recordings::recording::Recording;
 use recordings::recording::RecordingSource;
+use recordings::refusal::OpeningRefusal;
 use samples::converter::ConverterSample;
 use samples::gain_index::GainIndex;
 use source::source::Source;
@@ -53,6 +54,12 @@ where
     Ok(())
 }
 
+pub(crate) fn show_refusal(refusal: OpeningRefusal, text: &mut String) -> Result<(), AnyError> {
+    let number = refusal.number();
+    let place = refusal.place();
+    Ok(write!(text, "refused {number} at byte {place}")?)
+}
+
 fn opened_as<'a, L: Layout>(bytes: &'a [u8], text: &mut String) -> Result<(), AnyError>
 where
     L::Item: Shown,
@@ -63,16 +70,12 @@ where
             write!(text, "rate {rate}:")?;
             show_items(recording, text)
         }
-        Err(refusal) => {
-            let number = refusal.number();
-            let place = refusal.place();
-            Ok(write!(text, "refused {number} at byte {place}")?)
-        }
+        Err(refusal) => show_refusal(refusal, text),
     }
 }
 
 // What opening the bytes as a recording of this kind answers.
-pub fn opened(heap: Global, kind: &str, bytes: &[u8]) -> Result<String, AnyError> {
+pub(crate) fn opened(heap: Global, kind: &str, bytes: &[u8]) -> Result<String, AnyError> {
     let mut text = String::new(heap);
     match kind {
         "signal" => opened_as::<Signal>(bytes, &mut text)?,
@@ -83,7 +86,7 @@ pub fn opened(heap: Global, kind: &str, bytes: &[u8]) -> Result<String, AnyError
 }
 
 // The same for bytes that are spelled in words.
-pub fn answer(heap: Global, kind: &str, words: &str) -> Result<String, AnyError> {
+pub(crate) fn answer(heap: Global, kind: &str, words: &str) -> Result<String, AnyError> {
     let bytes = builder::bytes(heap, words)?;
     opened(heap, kind, bytes.as_slice())
 }

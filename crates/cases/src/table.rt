@@ -1,5 +1,6 @@
 // Tables of cases: a line for each, `name | what | of what | answer`.
 use crate::opening;
+use crate::rewriting;
 use crate::writing;
 use std::alloc::Global;
 use std::error::AnyError;
@@ -10,6 +11,7 @@ use std::fs;
 pub enum Section {
     Opening,
     Writing,
+    Rewriting,
 }
 
 // How many cases were compared, and how many of them differ.
@@ -24,12 +26,12 @@ fn alike(answer: &str, expected: &str) -> bool {
 }
 
 impl Tally {
-    pub fn new() -> Tally {
+    pub(crate) fn new() -> Tally {
         Tally { cases: 0, wrong: 0 }
     }
 
     // Compares the answer with what it should be, and prints a line.
-    pub fn compare(
+    pub(crate) fn compare(
         &mut self,
         rt: &LibcRuntime,
         name: &str,
@@ -47,7 +49,7 @@ impl Tally {
     }
 
     // The count of all cases; an error where one differs.
-    pub fn close(&self, rt: &LibcRuntime) -> Result<(), AnyError> {
+    pub(crate) fn close(&self, rt: &LibcRuntime) -> Result<(), AnyError> {
         let cases = self.cases;
         let wrong = self.wrong;
         println!(rt, "{cases} cases, {wrong} wrong")?;
@@ -63,6 +65,7 @@ fn answer(heap: Global, section: Section, what: &str, of_what: &str) -> Result<S
     match section {
         Section::Opening => opening::answer(heap, what, of_what),
         Section::Writing => writing::answer(heap, what, of_what),
+        Section::Rewriting => rewriting::answer(heap, what, of_what),
     }
 }
 
@@ -86,7 +89,7 @@ fn compare_line(
 }
 
 // Compares every line of the table in the file; an empty line and one that begins with # is none.
-pub fn compare(
+pub(crate) fn compare(
     rt: &LibcRuntime,
     file: &str,
     section: Section,

@@ -11,15 +11,16 @@ use std::error::AnyError;
 use std::fmt;
 use std::fmt::Write;
 
-const UNWRITTEN: u8 = 0xEE;
+pub const UNWRITTEN: u8 = 0xEE;
 
 // The bytes of a longer buffer are not shown.
 const SHOWN: usize = 64;
 
-// What is asked of the writer: the rate, the number of bytes that are lent at each call, and how to end.
+// What is asked of the writer: the rate, the bytes of the buffer, how many of them are lent at each call, and how to end.
 #[derive(Clone, Copy)]
 struct Task {
     rate: u32,
+    bytes: usize,
     start: usize,
     put: usize,
     finish: usize,
@@ -67,11 +68,12 @@ impl fmt::Display for Outcome as OutcomeDisplay {
     }
 }
 
-// Reads `rate=8000 start=48 put=47 finish=44 abandon`.
+// Reads `rate=8000 bytes=48 start=48 put=47 finish=44 abandon`; where nothing is said, the whole buffer is lent.
 fn parse_task(words: &str) -> Result<Task, AnyError> {
     let mut task = Task {
         rate: 8000,
-        start: 0,
+        bytes: 0,
+        start: usize::MAX,
         put: usize::MAX,
         finish: usize::MAX,
         abandon: false,
@@ -79,6 +81,7 @@ fn parse_task(words: &str) -> Result<Task, AnyError> {
     for word in words.split_whitespace() {
         match word.split_once('=') {
             Some(("rate", rate)) => task.rate = rate.parse::<u32>()?,
+            Some(("bytes", bytes)) => task.bytes = bytes.parse::<usize>()?,
             Some(("start", bytes)) => task.start = bytes.parse::<usize>()?,
             Some(("put", bytes)) => task.put = bytes.parse::<usize>()?,
             Some(("finish", bytes)) => task.finish = bytes.parse::<usize>()?,
@@ -140,7 +143,7 @@ fn finish(recording: StartedRecording, bytes: &mut [u8]) -> End {
 
 // A recording from its start to its end; the refusal where it does not start.
 fn written(task: Task, bytes: &mut [u8], runs: &[Run]) -> Result<Outcome, WritingRefusal> {
-    let mut recording = StartedRecording::start(bytes, task.rate)?;
+    let mut recording = StartedRecording::start(lent(bytes, task.start), task.rate)?;
     let (put, refused) = put_all(&mut recording, lent(bytes, task.put), runs);
     let end = if task.abandon {
         End::Abandoned(recording.abandon())
@@ -150,8 +153,9 @@ fn written(task: Task, bytes: &mut [u8], runs: &[Run]) -> Result<Outcome, Writin
     Ok(Outcome { put, refused, end })
 }
 
-fn show_bytes(bytes: &[u8], text: &mut String) -> Result<(), AnyError> {
-    if bytes.len() <= SHOWN {
+// Adds the bytes of a small buffer in hexadecimal.
+pub(crate) fn show_bytes(bytes: &[u8], text: &mut String) -> Result<(), AnyError> {
+    if !bytes.is_empty() && bytes.len() <= SHOWN {
         text.push_str(": ")?;
         for byte in bytes {
             let byte = *byte;
@@ -161,10 +165,10 @@ fn show_bytes(bytes: &[u8], text: &mut String) -> Result<(), AnyError> {
     Ok(())
 }
 
-pub fn answer(heap: Global, what: &str, samples: &str) -> Result<String, AnyError> {
+pub(crate) fn answer(heap: Global, what: &str, samples: &str) -> Result<String, AnyError> {
     let task = parse_task(what)?;
     let runs = parse_runs(heap, samples)?;
-    let mut bytes = vec![in heap; UNWRITTEN; task.start]?;
+    let mut bytes = vec![in heap; UNWRITTEN; task.bytes]?;
     let mut text = String::new(heap);
     match written(task, bytes.as_mut_slice(), runs.as_slice()) {
         Ok(outcome) => write!(text, "{outcome}")?,

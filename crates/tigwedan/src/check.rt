@@ -1,8 +1,10 @@
 // The command `check`: opens a file as a recording and tells what it holds.
 use crate::arguments::Kind;
 use crate::arguments::KindDisplay;
-use crate::report::Failure;
-use crate::report::FailureFromError;
+use crate::failure::Failure;
+use crate::failure::FailureFromError;
+use crate::report::Ends;
+use crate::report::EndsDisplay;
 use recordings::layout::Gains;
 use recordings::layout::GainsLayout;
 use recordings::layout::Layout;
@@ -17,7 +19,7 @@ use std::fs;
 
 // What a recording holds.
 #[derive(Clone, Copy)]
-struct Summary {
+struct Contents {
     rate: u32,
     items: u64,
     ending: Ending,
@@ -25,60 +27,47 @@ struct Summary {
 
 // How many items the source hands out, and how it ends.
 fn count<S: Source>(source: &mut S) -> (u64, Ending) {
-    let mut items = 0;
-    for taken in 0..u64::MAX {
-        items = taken;
+    for items in 0..u64::MAX {
         match source.next() {
             Ok(Some(_)) => {}
-            Ok(None) => break,
+            Ok(None) => return (items, Ending::Finished),
             Err(fault) => return (items, Ending::Faulted(fault)),
         }
     }
-    (items, Ending::Finished)
+    (u64::MAX, Ending::Finished)
 }
 
-fn examine<'a, L: Layout>(bytes: &'a [u8]) -> Result<Summary, OpeningRefusal> {
+fn examine<'a, L: Layout>(bytes: &'a [u8]) -> Result<Contents, OpeningRefusal> {
     let mut recording: Recording<'a, L> = Recording::open(bytes, 0)?;
-    let (items, ending) = count(&mut recording);
     let rate = recording.rate();
-    Ok(Summary {
+    let (items, ending) = count(&mut recording);
+    Ok(Contents {
         rate,
         items,
         ending,
     })
 }
 
-pub fn check<'a>(rt: &LibcRuntime, kind: Kind, file: &'a str) -> Result<(), Failure<'a>> {
+pub(crate) fn check<'a>(rt: &LibcRuntime, kind: Kind, file: &'a str) -> Result<(), Failure<'a>> {
     let bytes = match fs::read(rt, file) {
         Ok(bytes) => bytes,
         Err(error) => return Err(Failure::Reading(file, error)),
     };
-    let opened = match kind {
+    let examined = match kind {
         Kind::Signal => examine::<Signal>(bytes.as_slice()),
         Kind::Gain => examine::<Gains>(bytes.as_slice()),
     };
-    match opened {
-        Ok(
-            Summary {
-                rate,
-                items,
-                ending,
-            },
-        ) => {
-            print!(
+    match examined {
+        Ok(contents) => {
+            let rate = contents.rate;
+            let items = contents.items;
+            let ends = Ends(contents.ending);
+            println!(
                 rt,
-                "{file}: {kind} recording, rate {rate}, {items} samples, "
+                "{file}: {kind} recording, rate {rate}, {items} samples, {ends}"
             )?;
-            match ending {
-                Ending::Finished => println!(rt, "finished")?,
-                Ending::Faulted(fault) => {
-                    let number = fault.kind.number();
-                    let item = fault.item;
-                    println!(rt, "then fault {number} at item {item}")?;
-                }
-            }
             Ok(())
-        },
+        }
         Err(refusal) => Err(Failure::Refused(file, refusal)),
     }
 }

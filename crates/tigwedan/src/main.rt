@@ -1,23 +1,28 @@
-// Tigwedan: a radio channel emulator that plays a recorded signal through a modelled link.
+// Tigwedan: a radio channel emulator. It plays a recorded signal through a modelled radio link.
 //
-// The program reads its arguments and files, calls the libraries and prints. Every answer about a recording is theirs,
-// and proved there; of the program itself it is proved that it is safe and ends.
+// The program reads its arguments and files, calls the libraries and prints. What it answers about a recording comes
+// from them and is proved there; of the program itself it is proved that it is safe and ends.
 mod arguments;
 mod check;
+mod copy;
+mod demonstration;
+mod failure;
+mod parts;
 mod report;
 
 use arguments::Command;
-use report::Failure;
-use std::env;
+use failure::Failure;
+use failure::FailureDisplay;
 
-// The program ends with status 1; it has told why.
+// The program ends with status 1; why, it has told.
 #[derive(Clone, Copy)]
 struct Failed;
 
 fn run<'a>(rt: &LibcRuntime, words: &'a [String]) -> Result<(), Failure<'a>> {
     match arguments::parse(words)? {
-        Command::Demonstrate => report::usage(rt),
+        Command::Demonstrate => demonstration::demonstrate(rt),
         Command::Check(kind, file) => check::check(rt, kind, file),
+        Command::Copy(from, to) => copy::copy(rt, from, to),
     }
 }
 

@@ -1,58 +1,32 @@
-// What the program tells: its usage, and why it could not do what it was asked.
-use recordings::refusal::OpeningRefusal;
-use recordings::refusal::OpeningRefusalDisplay;
+// What the program prints about recordings.
+use source::fault::Ending;
 use std::fmt;
-use std::io;
 
-// Why a command was not carried out.
-#[derive(Drop)]
-pub enum Failure<'a> {
-    UnknownCommand(&'a str),
-    UnknownKind(&'a str),
-    // the form of the command whose arguments are too few or too many
-    WrongCount(&'static str),
-    Reading(&'a str, io::Error),
-    Refused(&'a str, OpeningRefusal),
-    Printing(io::Error),
-}
+// How a recording ends, in the words of a summary.
+#[derive(Clone, Copy)]
+pub struct Ends(pub Ending);
 
-pub impl<'a> From<io::Error> for Failure<'a> as FailureFromError {
-    fn from(error: io::Error) -> Failure<'a> {
-        Failure::Printing(error)
-    }
-}
-
-pub impl<'a> fmt::Display for Failure<'a> as FailureDisplay {
+pub impl fmt::Display for Ends as EndsDisplay {
     fn fmt<W: fmt::Write>(&self, f: &mut fmt::Formatter<W>) -> fmt::Result {
-        match self {
-            Failure::UnknownCommand(word) => write!(f, "there is no command '{word}'"),
-            Failure::UnknownKind(word) => write!(
-                f,
-                "a recording is 'signal' or 'gain', not '{word}'"
-            ),
-            Failure::WrongCount(form) => write!(f, "expected: tigwedan {form}"),
-            Failure::Reading(file, error) => write!(f, "{file}: cannot be read: {error}"),
-            Failure::Refused(file, refusal) => {
-                let number = refusal.number();
-                let place = refusal.place();
-                write!(f, "{file}: refused {number} at byte {place}: {refusal}")
+        match self.0 {
+            Ending::Finished => write!(f, "finished"),
+            Ending::Faulted(fault) => {
+                let number = fault.kind.number();
+                let item = fault.item;
+                write!(f, "then fault {number} at item {item}")
             }
-            Failure::Printing(error) => write!(f, "the output cannot be written: {error}"),
         }
     }
 }
 
-impl<'a> Failure<'a> {
-    // A refusal is the answer to the command and goes to the output; what the program could not do goes to the errors.
-    pub fn tell(&self, rt: &LibcRuntime) -> io::Result<()> {
-        match self {
-            Failure::Refused(_, _) => println!(rt, "{self}"),
-            _ => eprintln!(rt, "tigwedan: {self}"),
-        }
-    }
-}
+pub const USAGE: &str = "tigwedan: a radio channel emulator
 
-pub fn usage(rt: &LibcRuntime) -> Result<(), Failure<'static>> {
-    println!(rt, "usage: tigwedan check signal|gain FILE")?;
-    Ok(())
-}
+usage:
+  tigwedan                          shows this text and a small demonstration
+  tigwedan check signal|gain FILE   opens FILE as a recording and tells what it holds
+  tigwedan copy IN OUT              reads the signal recording IN and writes it anew to OUT
+
+Recordings are RIFF/WAVE files. A signal recording has two channels (real and imaginary part) of 12 bits in 16, a gain
+recording one channel of gain indices, 0 to 127, in 8 bits. A recording that is written has at most 65536 bytes, which
+is 16373 samples: what is left goes to further files, named as OUT with -2, -3 .. before its ending.
+A recording that is refused, or a copy that meets a fault, ends the program with status 1.";
