@@ -3,7 +3,7 @@ ghost use Prim.Native.Nat.{_≤_};
 ghost use lib.ListN.{length, take};
 use impairments::path::Path;
 
-// The paths of a multipath channel: the first `count` of ten places, 1 to 10. The places behind are neutral paths.
+// The paths of a multipath channel: what stands in the first `count` of ten places, 1 to 10.
 #[derive(Clone, Copy)]
 pub struct Paths {
     pub places: [Path; 10],
