@@ -1,7 +1,7 @@
 -- Records with the same numbers are the same record: their ranges are facts, which have one proof.
 use mathlib.Core.Path.{_≡_, PathP, toPathP}
 use mathlib.Core.List.{List}
-use Prim.Native.Nat.{ℕ, _≤_, _<_}
+use Prim.Native.Nat.{ℕ, _≤_}
 use native.Mathlib.Bridge.{le-prop}
 use lib.IntN.{ℤ}
 use lib.ListN.{length}

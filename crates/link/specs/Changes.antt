@@ -35,6 +35,7 @@ offset re im = record { re = re; im = im }
 abbrev pub balance : ℤ → ℤ → ℤ → Balance
 balance a b c = record { a = a; b = b; c = c }
 
+-- the scale factor changed
 abbrev pub with-scale : Scale → Settings → Settings
 with-scale new s =
     record {
@@ -55,6 +56,7 @@ with-scale new s =
       «rx_imbalance» = s .«rx_imbalance»;
     }
 
+-- the transmitter's DC offset changed
 abbrev pub with-tx-dc : Offset → Settings → Settings
 with-tx-dc new s =
     record {
@@ -75,6 +77,7 @@ with-tx-dc new s =
       «rx_imbalance» = s .«rx_imbalance»;
     }
 
+-- the transmitter's imbalance changed
 abbrev pub with-tx-imbalance : Balance → Settings → Settings
 with-tx-imbalance new s =
     record {
@@ -95,6 +98,7 @@ with-tx-imbalance new s =
       «rx_imbalance» = s .«rx_imbalance»;
     }
 
+-- the amplifier's table changed
 abbrev pub with-amplifier : AmplifierTable → Settings → Settings
 with-amplifier new s =
     record {
@@ -115,6 +119,7 @@ with-amplifier new s =
       «rx_imbalance» = s .«rx_imbalance»;
     }
 
+-- the amplifier's bypass switch changed
 abbrev pub with-amplifier-bypass : Bool → Settings → Settings
 with-amplifier-bypass new s =
     record {
@@ -135,6 +140,7 @@ with-amplifier-bypass new s =
       «rx_imbalance» = s .«rx_imbalance»;
     }
 
+-- the paths changed
 abbrev pub with-paths : Paths → Settings → Settings
 with-paths new s =
     record {
@@ -155,6 +161,7 @@ with-paths new s =
       «rx_imbalance» = s .«rx_imbalance»;
     }
 
+-- the frequency offset changed
 abbrev pub with-frequency : FrequencyOffset → Settings → Settings
 with-frequency new s =
     record {
@@ -175,6 +182,7 @@ with-frequency new s =
       «rx_imbalance» = s .«rx_imbalance»;
     }
 
+-- the clock offset changed
 abbrev pub with-clock : ClockOffset → Settings → Settings
 with-clock new s =
     record {
@@ -195,6 +203,7 @@ with-clock new s =
       «rx_imbalance» = s .«rx_imbalance»;
     }
 
+-- the clock's bypass switch changed
 abbrev pub with-clock-bypass : Bool → Settings → Settings
 with-clock-bypass new s =
     record {
@@ -215,6 +224,7 @@ with-clock-bypass new s =
       «rx_imbalance» = s .«rx_imbalance»;
     }
 
+-- the channel's gain changed
 abbrev pub with-gain : Gain → Settings → Settings
 with-gain new s =
     record {
@@ -235,6 +245,7 @@ with-gain new s =
       «rx_imbalance» = s .«rx_imbalance»;
     }
 
+-- the seeds of the noise changed
 abbrev pub with-seeds : Seeds → Settings → Settings
 with-seeds new s =
     record {
@@ -276,6 +287,7 @@ with-receive-gain index new s =
       «rx_imbalance» = s .«rx_imbalance»;
     }
 
+-- the lead of the gain indices changed
 abbrev pub with-lead : ℕ → Settings → Settings
 with-lead new s =
     record {
@@ -296,6 +308,7 @@ with-lead new s =
       «rx_imbalance» = s .«rx_imbalance»;
     }
 
+-- the receiver's DC offset changed
 abbrev pub with-rx-dc : Offset → Settings → Settings
 with-rx-dc new s =
     record {
@@ -316,6 +329,7 @@ with-rx-dc new s =
       «rx_imbalance» = s .«rx_imbalance»;
     }
 
+-- the receiver's imbalance changed
 abbrev pub with-rx-imbalance : Balance → Settings → Settings
 with-rx-imbalance new s =
     record {

@@ -1,4 +1,5 @@
--- What a setting call makes of the numbers that it is given: it is refused exactly when they are outside their range.
+-- What a setting call makes of the numbers that it is given: the record that carries their range, or, exactly when they
+-- are outside it, the refusal.
 use mathlib.Core.Bool.{cond}
 use Prim.Native.Nat.{ℕ}
 use native.Mathlib.Decide.{decLt}
@@ -15,11 +16,11 @@ use Rattle.link.specs.declared.refusal.SettingRefusal.the-variants.{ScaleOutsi
 use Rattle.link.specs.declared.scale.Scale.{Scale}
 use Rattle.link.specs.Decisions.{both, between, betweenℤ, checked}
 
--- 1 to 32767
+-- a scale factor is 1 to 32767
 abbrev pub checked-scale : ℕ → Result Scale SettingRefusal
 checked-scale f = checked (between 1 f 32767) (λ h. record { factor = f; low = h .0; high = h .1 }) ScaleOutside
 
--- shift -32 to 18, factor 128 to 255
+-- a gain's shift is -32 to 18, and its factor 128 to 255
 abbrev pub checked-gain : ℤ → ℕ → Result Gain SettingRefusal
 checked-gain s g =
     checked
@@ -35,7 +36,7 @@ checked-gain s g =
     })
     GainOutside
 
--- -9,007,199,254,740 to 9,007,199,254,740
+-- a clock offset is -9,007,199,254,740 to 9,007,199,254,740
 abbrev pub checked-clock : ℤ → Result ClockOffset SettingRefusal
 checked-clock c =
     checked
@@ -43,7 +44,7 @@ checked-clock c =
     (λ h. record { c = c; low = h .0; high = h .1 })
     ClockOutside
 
--- -2^47 to 2^47 - 1
+-- a frequency offset is -2^47 to 2^47 - 1
 abbrev pub checked-frequency : ℤ → Result FrequencyOffset SettingRefusal
 checked-frequency f =
     checked
@@ -51,10 +52,10 @@ checked-frequency f =
     (λ h. record { f = f; low = h .0; high = h .1 })
     FrequencyOutside
 
--- neither is 0
+-- neither seed is 0
 abbrev pub checked-seeds : ℕ → ℕ → Result Seeds SettingRefusal
 checked-seeds re im = checked (both (decLt 0 re) (decLt 0 im)) (λ h. record { re = re; im = im; «re_moves» = h .0; «im_moves» = h .1 }) SeedZero
 
--- index 0 to 127, and then the gain
+-- the index is 0 to 127; only then is the gain looked at
 abbrev pub checked-receive-gain : ℕ → ℤ → ℕ → Result Gain SettingRefusal
 checked-receive-gain index s g = cond (ltb 127 index) (Err IndexOver) (checked-gain s g)

@@ -1,5 +1,4 @@
 -- Fresh settings.
-use mathlib.Core.Path.{refl}
 use mathlib.Core.Bool.{true}
 use lib.Dec.{lit<, lit≤}
 use lib.IntN.{pos}

@@ -27,6 +27,7 @@ abbrev pub paths-of : (ps : List RawPath) → All Near ps → List Path
 paths-of [] h = []
 paths-of (p ∷ ps) h = record { re = p .re; im = p .im; delay = p .delay; «delay_within» = h .0 } ∷ paths-of ps (h .1)
 
+-- as many as were given
 pub length-paths-of : (ps : List RawPath) (h : All Near ps) → length (paths-of ps h) ≡ length ps
 length-paths-of [] h = refl
 length-paths-of (p ∷ ps) h = ap suc (length-paths-of ps (h .1))
@@ -35,6 +36,7 @@ length-paths-of (p ∷ ps) h = ap suc (length-paths-of ps (h .1))
 abbrev pub padded : List Path → List Path
 padded paths = paths ++ replicate (10 - length paths) neutral-path
 
+-- the lengths that the types ask
 pub length-padded : (ps : List Path) → length ps ≤ 10 → length (padded ps) ≡ 10
 length-padded ps h = simp (length-append, length-replicate) (omega arith)
 
@@ -57,7 +59,7 @@ checked-paths ps =
       high = n .1;
     })
 
--- at most 32767
+-- an amplitude is at most 32767
 abbrev pub Amplitude : ℕ → Type 0
 Amplitude a = a ≤ 32767
 
@@ -67,6 +69,7 @@ entries-of [] phases h = []
 entries-of (a ∷ amps) [] h = []
 entries-of (a ∷ amps) (p ∷ phases) h = record { amplitude = a; phase = p; «amplitude_within» = h .0 } ∷ entries-of amps phases (h .1)
 
+-- the lengths that the types ask
 pub length-entries-of : (amps : List ℕ) (phases : List ℤ) (h : All Amplitude amps) → length amps ≡ length phases → length (entries-of amps phases h) ≡ length amps
 length-entries-of [] phases h e = refl
 length-entries-of (a ∷ amps) [] h e = omega arith

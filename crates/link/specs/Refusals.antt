@@ -3,6 +3,7 @@ use Prim.Native.Nat.{ℕ}
 use Rattle.link.specs.declared.refusal.SettingRefusal.{SettingRefusal}
 use Rattle.link.specs.declared.refusal.SettingRefusal.the-variants.{ScaleOutside, GainOutside, PathOutside, EntryOutside, ClockOutside, SeedZero, FrequencyOutside, IndexOver}
 
+-- the number by which a refusal is known
 abbrev pub setting-number : SettingRefusal → ℕ
 setting-number ScaleOutside = 1
 setting-number GainOutside = 2

@@ -86,7 +86,8 @@ pub(crate) fn checked_seeds(re: u32, im: u32) -> Result<Seeds, SettingRefusal>
     Ok(Seeds { re, im })
 }
 
-// 1 to 10 paths, each with a delay of at most 63.
+// 1 to 10 paths, each with a delay of at most 63. Places that are not in use hold neutral paths, so that settings with
+// the same paths are the same.
 pub(crate) fn checked_paths(given: &[RawPath]) -> Result<Paths, SettingRefusal>
     ensures { λ r. ⌜ r ≡ checked-paths (now (given .entry)) ⌝ }
 {

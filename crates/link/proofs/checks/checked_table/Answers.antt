@@ -1,5 +1,4 @@
 use mathlib.Core.Path.{_≡_, refl, _∙_}
-use Prim.Native.Nat.{_≤_, _<_}
 use native.Mathlib.Omega.{arith}
 use lib.IntN.{pos}
 use lib.ListN.{length, getD, length-set}
@@ -7,7 +6,6 @@ use mir.Syntax.{w16}
 use mir.Val.{SFits}
 use borrow.Author.Needs.{needs}
 use Rattle.std.proofs.shelf.Elements.{every-more, every-upto}
-use Rattle.std.proofs.shelf.Lists.{append-nil}
 use Rattle.std.proofs.shelf.Signed.{toZ-ofZ}
 use Rattle.turns.specs.declared.entry.Entry.{Entry}
 use Rattle.link.specs.Lists.{Amplitude}
