@@ -8,17 +8,8 @@ use mir.Syntax.{w64}
 use mir.Val.{SFits}
 use Rattle.std.proofs.shelf.Signed.{ints}
 use Rattle.std.proofs.shelf.Bits.{mul-le}
+use Rattle.samples.proofs.Products.{natAbs-mul}
 use Rattle.samples.specs.Arithmetic.{Within}
-
-natAbs-neg : (n : ℕ) → natAbs (negℤ (pos n)) ≡ n
-natAbs-neg zero = refl
-natAbs-neg (suc n) = refl
-
-natAbs-mul : (a b : ℤ) → natAbs (a *ℤ b) ≡ natAbs a * natAbs b
-natAbs-mul (pos a) (pos b) = refl
-natAbs-mul (pos a) (negsuc b) = natAbs-neg (a * suc b)
-natAbs-mul (negsuc a) (pos b) = natAbs-neg (suc a * b)
-natAbs-mul (negsuc a) (negsuc b) = refl
 
 half : (z : ℤ) → Within 17 z → natAbs z ≤ 2 ^ 16
 half (pos a) w = omega (arith, ints, w .0, w .1)

@@ -33,7 +33,8 @@ pub record Going (start : ℕ) (bytes : List ℕ) (left whole : Stream Converter
   pub behind : rests ≡ from k left
   pub same : kept ≡ whole
 
-never : {P : Type 0} → _≡_ {A = ℕ} 0 1 → P
+-- what follows from a contradiction
+pub never : {P : Type 0} → _≡_ {A = ℕ} 0 1 → P
 never z = absurd (omega arith)
 
 -- an item came: it is the first of what is left

@@ -23,10 +23,8 @@ use Rattle.recordings.specs.Opening.{Hands-out, signal-opening}
 use Rattle.recorder.specs.Sessions.{room, taken, from, met, part-of, record-answer, after-record, left-after-record, Comes-back}
 use Rattle.recorder.specs.Writing.{header, coded, size-of, recorded, good-rate, good-buffer, fits, sized, start-answer, after-start, finish-answer, after-finish}
 use Rattle.recorder.proofs.Back.{coded-length, hands-out}
+use Rattle.recorder.proofs.Filling.{never}
 use Rattle.recorder.proofs.Overwriting.{take-overwrite, overwrite-more, overwrite-length, fits-passes}
-
-never : {P : Type 0} → _≡_ {A = ℕ} 0 1 → P
-never z = absurd (omega arith)
 
 -- it was started: so rate and buffer are good, and no sample is in it
 pub record Begun (len rate : ℕ) (w : StartedRecording) : Type 0 where
