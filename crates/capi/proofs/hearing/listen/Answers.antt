@@ -8,8 +8,8 @@ use Rattle.capi.specs.Playing.{parts}
 use Rattle.capi.proofs.Listening.{Listened, listened, buffer_told, mapped}
 use Rattle.capi.proofs.hearing.listen.Goals as goal
 
-pub ending-met-ending-requires : goal.ending-met-ending-requires
-ending-met-ending-requires g c κs =
+pub ending_met-ending-requires : goal.ending_met-ending-requires
+ending_met-ending-requires g c κs =
     let W = each_whole (λ _ x. parts x) g.S.Source.whole in
     let L = each_left (λ _ x. parts x) g.S.Source.left in
     let s = standing W L c.new-player.result in
@@ -18,8 +18,8 @@ ending-met-ending-requires g c κs =
     let n = length c.args.out.now in
     let k : length c.fill.new.buffer ≡ n = c.fill.auto.buffer in
     let stands = subst (λ (v : Stream _). Stands s v 0) c.new-apart.ensures.whole c.new-player.ensures.stands in
-    let l = listened n w s s' c.unwrap-or-items.result stands c.fill.ensures.moves (c.unwrap-or-items.ensures ∙ ap (λ r. result_unwrap_or r 0) c.fill.ensures.answers) in
-    λ h. l.spent (subst (λ (m : ℕ). c.unwrap-or-items.result < m) k h)
+    let l = listened n w s s' c.unwrap_or-items.result stands c.fill.ensures.moves (c.unwrap_or-items.ensures ∙ ap (λ r. result_unwrap_or r 0) c.fill.ensures.answers) in
+    λ h. l.spent (subst (λ (m : ℕ). c.unwrap_or-items.result < m) k h)
 
 pub returns : goal.returns
 returns g c =
@@ -32,9 +32,9 @@ returns g c =
     let n = length c.args.out.now in
     let k : length c.fill.new.buffer ≡ n = c.fill.auto.buffer in
     let stands = subst (λ (v : Stream _). Stands s v 0) c.new-apart.ensures.whole c.new-player.ensures.stands in
-    let l = listened n w s s' c.unwrap-or-items.result stands c.fill.ensures.moves (c.unwrap-or-items.ensures ∙ ap (λ r. result_unwrap_or r 0) c.fill.ensures.answers) in
+    let l = listened n w s s' c.unwrap_or-items.result stands c.fill.ensures.moves (c.unwrap_or-items.ensures ∙ ap (λ r. result_unwrap_or r 0) c.fill.ensures.answers) in
     let m = mapped parts n below in
     record {
-      answer = λ i. record { items = (l.items ∙ m.0) i; ending = (c.ending-met-ending.ensures ∙ ap (λ (j : ℕ). cond (ltb c.unwrap-or-items.result j) (Some s'.left.ending) None) k ∙ l.ending ∙ m.1) i };
+      answer = λ i. record { items = (l.items ∙ m.0) i; ending = (c.ending_met-ending.ensures ∙ ap (λ (j : ℕ). cond (ltb c.unwrap_or-items.result j) (Some s'.left.ending) None) k ∙ l.ending ∙ m.1) i };
       buffer = buffer_told (c.fill.ensures.plays w 0 stands).0;
     }

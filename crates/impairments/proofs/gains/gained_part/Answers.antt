@@ -30,8 +30,8 @@ returns-then-gain-ge8 c =
     let n = c.args.gain.factor in
     let f : to_z w64 n ≡ pos n = omega (arith, ints) in
     let x : SFits w64 c.args.x = c.ranges.x in
-    let p : SFits w64 c.times-product.result = record { sfits = c.times-product.type-inv } in
-    let r : SFits w64 c.raised.result = record { sfits = c.raised.type-inv } in
+    let p : SFits w64 c.times-product.result = record { sfits = c.times-product.type_inv } in
+    let r : SFits w64 c.raised.result = record { sfits = c.raised.type_inv } in
     let w : SFits w8 s = omega (arith, ints) in
     let d : SFits w8 (s -ℤ pos 8) = omega (arith, ints) in
     let l : pos 0 ≤ℤ (s -ℤ pos 8) = omega (arith, ints) in
@@ -45,7 +45,7 @@ returns-else-gain-ge8 c =
     let n = c.args.gain.factor in
     let f : to_z w64 n ≡ pos n = omega (arith, ints) in
     let x : SFits w64 c.args.x = c.ranges.x in
-    let p : SFits w64 c.times-product.result = record { sfits = c.times-product.type-inv } in
+    let p : SFits w64 c.times-product.result = record { sfits = c.times-product.type_inv } in
     let l : (s -ℤ pos 8) <ℤ pos 0 = omega (arith, ints) in
     let m : (pos 8 -ℤ s) ≡ neg_ℤ (s -ℤ pos 8) = omega (arith, ints) in
     let k : to_z w8 (of_z w8 (pos 8 -ℤ to_z w8 (of_z w8 s))) ≡ pos 8 -ℤ s = omega (arith, ints) in

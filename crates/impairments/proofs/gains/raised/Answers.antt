@@ -9,8 +9,8 @@ power k h =
     let l : 2 ^ k ≤ 2 ^ 10 = pow_mono h in
     ap (to_z w64) (one_shl k 64 (omega arith)) ∙ to_z_pos w64 (2 ^ k) (omega arith)
 
-pub overflow-mul-result : goal.overflow-mul-result
-overflow-mul-result c =
+pub overflow_mul-result : goal.overflow_mul-result
+overflow_mul-result c =
     let p : SFits w64 c.args.product = c.ranges.product in
     simp (power c.args.by c.requires.by, to_z-of_z) (raised_fits c.args.product c.args.by c.requires.product c.requires.by)
 

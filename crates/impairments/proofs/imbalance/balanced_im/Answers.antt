@@ -9,8 +9,8 @@ returns c =
     let a : SFits w16 b = search rules in
     let a' : SFits w64 b = omega (arith, ints) in
     let y : SFits w64 c.args.im = c.ranges.im in
-    let p : SFits w64 c.times.result = record { sfits = c.times.type-inv } in
-    let r : SFits w64 c.floor-shift.result = record { sfits = c.floor-shift.type-inv } in
+    let p : SFits w64 c.times.result = record { sfits = c.times.type_inv } in
+    let r : SFits w64 c.floor_shift.result = record { sfits = c.floor_shift.type_inv } in
     let t : c.times.result ≡ b *ℤ c.args.im = simp to_z-of_z at c.times.ensures.value in
-    let e : c.floor-shift.result ≡ floor_by c.times.result (2 ^ 14) = simp to_z-of_z at c.floor-shift.ensures.value in
+    let e : c.floor_shift.result ≡ floor_by c.times.result (2 ^ 14) = simp to_z-of_z at c.floor_shift.ensures.value in
     simp to_z-of_z (e ∙ ap (λ (z : ℤ). floor_by z (2 ^ 14)) t)

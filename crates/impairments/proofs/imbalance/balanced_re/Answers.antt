@@ -10,8 +10,8 @@ times-requires-2 c =
     let y : SFits w64 c.args.im = c.ranges.im in
     simp to_z-of_z (record { factor = (omega (arith, ints), omega (arith, ints)); part = c.requires.im })
 
-pub overflow-add-times : goal.overflow-add-times
-overflow-add-times c =
+pub overflow_add-times : goal.overflow_add-times
+overflow_add-times c =
     let u = c.times.ensures.within in
     let v = c.times-2.ensures.within in
     omega (arith, ints, u.0, u.1, v.0, v.1)
@@ -25,13 +25,13 @@ returns c =
     let d' : SFits w64 b.c = omega (arith, ints) in
     let x : SFits w64 c.args.re = c.ranges.re in
     let y : SFits w64 c.args.im = c.ranges.im in
-    let p : SFits w64 c.times.result = record { sfits = c.times.type-inv } in
-    let q : SFits w64 c.times-2.result = record { sfits = c.times-2.type-inv } in
+    let p : SFits w64 c.times.result = record { sfits = c.times.type_inv } in
+    let q : SFits w64 c.times-2.result = record { sfits = c.times-2.type_inv } in
     let u = c.times.ensures.within in
     let v = c.times-2.ensures.within in
     let s : SFits w64 (c.times.result +ℤ c.times-2.result) = omega (arith, ints, u.0, u.1, v.0, v.1) in
-    let r : SFits w64 c.floor-shift.result = record { sfits = c.floor-shift.type-inv } in
+    let r : SFits w64 c.floor_shift.result = record { sfits = c.floor_shift.type_inv } in
     let t : c.times.result ≡ b.a *ℤ c.args.re = simp to_z-of_z at c.times.ensures.value in
     let w : c.times-2.result ≡ b.c *ℤ c.args.im = simp to_z-of_z at c.times-2.ensures.value in
-    let e : c.floor-shift.result ≡ floor_by (c.times.result +ℤ c.times-2.result) (2 ^ 14) = simp to_z-of_z at c.floor-shift.ensures.value in
+    let e : c.floor_shift.result ≡ floor_by (c.times.result +ℤ c.times-2.result) (2 ^ 14) = simp to_z-of_z at c.floor_shift.ensures.value in
     simp to_z-of_z (e ∙ ap (λ (z : ℤ). floor_by z (2 ^ 14)) (ap₂ ◌+ℤ◌ t w))

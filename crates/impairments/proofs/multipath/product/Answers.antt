@@ -8,6 +8,6 @@ returns c =
     let b : SFits w16 c.args.part = c.ranges.part in
     let a' : SFits w64 c.args.coefficient = omega (arith, ints) in
     let b' : SFits w64 c.args.part = omega (arith, ints) in
-    let r : SFits w64 c.times.result = record { sfits = c.times.type-inv } in
+    let r : SFits w64 c.times.result = record { sfits = c.times.type_inv } in
     let v : c.times.result ≡ c.args.coefficient *ℤ c.args.part = simp to_z-of_z at c.times.ensures.value in
     record { value = simp to_z-of_z v; within = simp to_z-of_z c.times.ensures.within }

@@ -3,8 +3,8 @@ use Rattle.std.proofs.lemmas.Int.{ints, to_z-of_z}
 use Rattle.impairments.proofs.Products.{product_within}
 use Rattle.impairments.proofs.product.times.Goals as goal
 
-pub overflow-mul-result : goal.overflow-mul-result
-overflow-mul-result c =
+pub overflow_mul-result : goal.overflow_mul-result
+overflow_mul-result c =
     let x : SFits w64 c.args.x = c.ranges.x in
     let f : SFits w64 c.args.factor = c.ranges.factor in
     let t = product_within c.args.factor c.args.x c.requires.factor c.requires.part in

@@ -24,16 +24,16 @@ loop-call-preserved g c =
     let calls = map asked c.loop-call.yielded in
     let more = sym (map_push asked c.loop-call.yielded c.in-Some.call) in
     let e = c.answer.ensures.plays w (fold (plain_place w) 0 calls) c.loop-call.invariant.1 in (
-      ap (map told) c.in-ok-push.ensures.items ∙ map_push told (vec_items c.loop-call.answers) c.answer.result
+      ap (map told) c.in_ok-push.ensures.items ∙ map_push told (vec_items c.loop-call.answers) c.answer.result
           ∙ ap₂ (λ xs x. xs ++ x ∷ []) c.loop-call.invariant.0 e.0 ∙ sym (run_more w calls 0 (asked c.in-Some.call)) ∙ ap (plain_run w 0) more,
       subst (λ (k : ℕ). Stands s w k) (sym (place_more w calls 0 (asked c.in-Some.call)) ∙ ap (fold (plain_place w) 0) more) e.1,
     )
 
 pub returns : goal.returns
 returns g c =
-    let road = YieldsList-from_shown into_iter_steps (λ x. x) into_iter_items (λ s t h. sym s.rest.ok.0 ∙ h.0) (λ s x t h. h.0) c.into-iter-call-iterator.result in
-    let end = YieldsList-end road c.loop-call.yielded c.loop-call.call-iterator c.loop-call.yielded-by c.next.result c.next.new.self c.in-None.is c.next.ensures.steps in
-    let all : c.loop-call.yielded ≡ vec_items c.args.calls = sym (map-id c.loop-call.yielded) ∙ end.0 ∙ c.into-iter-call-iterator.ensures.into-iter-gives.0 in
+    let road = YieldsList-from_shown into_iter_steps (λ x. x) into_iter_items (λ s t h. sym s.rest.ok.0 ∙ h.0) (λ s x t h. h.0) c.into_iter-call-iterator.result in
+    let end = YieldsList-end road c.loop-call.yielded c.loop-call.call-iterator c.loop-call.yielded_by c.next.result c.next.new.self c.in-None.is c.next.ensures.steps in
+    let all : c.loop-call.yielded ≡ vec_items c.args.calls = sym (map-id c.loop-call.yielded) ∙ end.0 ∙ c.into_iter-call-iterator.ensures.into_iter-gives.0 in
     let calls = map asked (vec_items c.args.calls) in
     let answers = map told (vec_items c.loop-call.answers) in
     let w = g.S.Source.whole c.new-player.result.source in

@@ -9,4 +9,4 @@ placed at n k b xs ys e h i =
     ap (λ (zs : List ℕ). put_mid at k b zs) e ∙ ap (λ (zs : List ℕ). take at b ++ (xs ++ zs)) (drop-drop k at b ∙ ap (λ (j : ℕ). drop (at + j) b) (i ∙ h))
 
 pub returns : goal.returns
-returns c = placed c.args.at (length c.args.content.now) _ c.args.bytes.now c.args.content.now c.copy-from-slice.new.self c.copy-from-slice.ensures.after refl (omega arith)
+returns c = placed c.args.at (length c.args.content.now) _ c.args.bytes.now c.args.content.now c.copy_from_slice.new.self c.copy_from_slice.ensures.after refl (omega arith)

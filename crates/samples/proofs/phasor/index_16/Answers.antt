@@ -13,6 +13,6 @@ is_index (negsuc a) r e = rw e (ap nat_abs (to_z_pos w64 _ (omega arith)))
 pub returns : goal.returns
 returns c =
     let p : SFits w64 c.args.phase = c.ranges.phase in
-    let r : SFits w64 c.rem-euclid.result = record { sfits = c.rem-euclid.type-inv } in
-    let e : c.rem-euclid.result ≡ int_rem_euclid c.args.phase (pos 65536) = simp to_z-of_z at c.rem-euclid.ensures.value in
-    rw (to_z-of_z w64 c.rem-euclid.result r) (is_index c.args.phase c.rem-euclid.result e)
+    let r : SFits w64 c.rem_euclid.result = record { sfits = c.rem_euclid.type_inv } in
+    let e : c.rem_euclid.result ≡ int_rem_euclid c.args.phase (pos 65536) = simp to_z-of_z at c.rem_euclid.ensures.value in
+    rw (to_z-of_z w64 c.rem_euclid.result r) (is_index c.args.phase c.rem_euclid.result e)

@@ -4,15 +4,15 @@ use Rattle.samples.specs.Arithmetic.{floor_by}
 use Rattle.stages.proofs.Ways.{shift_is, product_fits, part_between, fits_between}
 use Rattle.stages.proofs.interpolation.part_of_the_way.Goals as goal
 
-pub overflow-mul-result : goal.overflow-mul-result
-overflow-mul-result c =
+pub overflow_mul-result : goal.overflow_mul-result
+overflow_mul-result c =
     let d : SFits w32 c.args.d = c.ranges.d in
     let d64 : SFits w64 c.args.d = omega (arith, ints) in
     let f : c.args.f < 2 ^ 63 = omega arith in
     simp (to_z-of_z, to_z_pos w64 c.args.f f) (product_fits c.args.d c.args.f d (omega arith))
 
-pub overflow-cast-result-3 : goal.overflow-cast-result-3
-overflow-cast-result-3 c =
+pub overflow_cast-result-3 : goal.overflow_cast-result-3
+overflow_cast-result-3 c =
     let d : SFits w32 c.args.d = c.ranges.d in
     let d64 : SFits w64 c.args.d = omega (arith, ints) in
     let f16 : c.args.f < 2 ^ 16 = omega arith in

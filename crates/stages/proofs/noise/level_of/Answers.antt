@@ -4,14 +4,14 @@ use Rattle.std.proofs.lemmas.Int.{ints}
 use Rattle.stages.proofs.noise.level_of.Goals as goal
 
 -- a state of 32 bits has at most 32 ones
-pub overflow-cast-result : goal.overflow-cast-result
-overflow-cast-result c = let b : ones c.args.v ≤ 32 = ones-le 32 c.args.v (omega arith) in omega (arith, ints)
+pub overflow_cast-result : goal.overflow_cast-result
+overflow_cast-result c = let b : ones c.args.v ≤ 32 = ones-le 32 c.args.v (omega arith) in omega (arith, ints)
 
-pub overflow-sub-result : goal.overflow-sub-result
-overflow-sub-result c = let b : ones c.args.v ≤ 32 = ones-le 32 c.args.v (omega arith) in omega (arith, ints)
+pub overflow_sub-result : goal.overflow_sub-result
+overflow_sub-result c = let b : ones c.args.v ≤ 32 = ones-le 32 c.args.v (omega arith) in omega (arith, ints)
 
-pub overflow-mul-result : goal.overflow-mul-result
-overflow-mul-result c = let b : ones c.args.v ≤ 32 = ones-le 32 c.args.v (omega arith) in omega (arith, ints)
+pub overflow_mul-result : goal.overflow_mul-result
+overflow_mul-result c = let b : ones c.args.v ≤ 32 = ones-le 32 c.args.v (omega arith) in omega (arith, ints)
 
 pub returns : goal.returns
 returns c = let b : ones c.args.v ≤ 32 = ones-le 32 c.args.v (omega arith) in omega (arith, ints)

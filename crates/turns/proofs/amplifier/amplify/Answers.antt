@@ -14,7 +14,7 @@ unfolding amplified
 returns c =
     let table = c.args.table.now.entries in
     let x = c.args.x in
-    let e = c.entry-at-amplitude.result in
+    let e = c.entry_at-amplitude.result in
     let p = c.phasor-cosine.result in
     let t = c.turn-re.result in
     let e0 : SFits w64 e.0 = omega (arith, ints) in
@@ -23,10 +23,10 @@ returns c =
     let p1 : SFits w64 p.1 = omega (arith, ints) in
     let t0 : SFits w64 t.0 = omega (arith, ints) in
     let t1 : SFits w64 t.1 = omega (arith, ints) in
-    let s0 : SFits w64 c.scale.result = record { sfits = c.scale.type-inv } in
-    let s1 : SFits w64 c.scale-2.result = record { sfits = c.scale-2.type-inv } in
-    let am : e.0 ≡ at_magnitude (amplitude_of table) (magnitude x) = c.entry-at-amplitude.ensures.amplitude ∙ ap (at_magnitude (amplitude_of table)) c.magnitude-of.ensures.value in
-    let ph : e.1 ≡ at_magnitude (phase_of table) (magnitude x) = c.entry-at-amplitude.ensures.phase ∙ ap (at_magnitude (phase_of table)) c.magnitude-of.ensures.value in
+    let s0 : SFits w64 c.scale.result = record { sfits = c.scale.type_inv } in
+    let s1 : SFits w64 c.scale-2.result = record { sfits = c.scale-2.type_inv } in
+    let am : e.0 ≡ at_magnitude (amplitude_of table) (magnitude x) = c.entry_at-amplitude.ensures.amplitude ∙ ap (at_magnitude (amplitude_of table)) c.magnitude_of.ensures.value in
+    let ph : e.1 ≡ at_magnitude (phase_of table) (magnitude x) = c.entry_at-amplitude.ensures.phase ∙ ap (at_magnitude (phase_of table)) c.magnitude_of.ensures.value in
     let ix : c.index_16.result ≡ index_16 e.1 = simp to_z-of_z at c.index_16.ensures in
     let v : t ≡ turned x p = simp to_z-of_z at c.turn-re.ensures.value in
     let tu : t ≡ turned x (phasor_of (index_16 (at_magnitude (phase_of table) (magnitude x)))) = v ∙ ap (turned x) (c.phasor-cosine.ensures.value ∙ ap phasor_of (ix ∙ ap index_16 ph)) in

@@ -6,8 +6,8 @@ use Rattle.turns.proofs.amplifier.entry_at.Goals as goal
 pub returns : goal.returns
 returns c =
     let t = c.args.table.now.entries in
-    let a : SFits w64 c.interpolate.result = record { sfits = c.interpolate.type-inv } in
-    let b : SFits w64 c.interpolate-2.result = record { sfits = c.interpolate-2.type-inv } in
+    let a : SFits w64 c.interpolate.result = record { sfits = c.interpolate.type_inv } in
+    let b : SFits w64 c.interpolate-2.result = record { sfits = c.interpolate-2.type_inv } in
     let p : SFits w16 (get_or t (c.args.m / 64) c.index-table-q.result).phase = search rules in
     let q : SFits w16 (get_or t c.min.result c.index-table-min.result).phase = search rules in
     record {

@@ -16,11 +16,11 @@ returns c =
     let p1 : SFits w64 p.1 = omega (arith, ints) in
     let t0 : SFits w64 t.0 = omega (arith, ints) in
     let t1 : SFits w64 t.1 = omega (arith, ints) in
-    let f0 : SFits w64 c.floor-shift.result = record { sfits = c.floor-shift.type-inv } in
-    let f1 : SFits w64 c.floor-shift-2.result = record { sfits = c.floor-shift-2.type-inv } in
+    let f0 : SFits w64 c.floor_shift.result = record { sfits = c.floor_shift.type_inv } in
+    let f1 : SFits w64 c.floor_shift-2.result = record { sfits = c.floor_shift-2.type_inv } in
     let e : p ≡ phasor_of (index_48 c.args.phase) = c.phasor-cosine.ensures.value ∙ ap phasor_of c.index_48.ensures in
     let v : t ≡ turned c.args.x p = simp to_z-of_z at c.turn-re.ensures.value in
-    let a : c.floor-shift.result ≡ floor_by t.0 (2 ^ 14) = simp to_z-of_z at c.floor-shift.ensures.value in
-    let b : c.floor-shift-2.result ≡ floor_by t.1 (2 ^ 14) = simp to_z-of_z at c.floor-shift-2.ensures.value in
-    let r : c.new.result ≡ working c.floor-shift.result c.floor-shift-2.result = simp to_z-of_z at c.new.ensures in
-    divided_is t 14 c.floor-shift.result c.floor-shift-2.result _ a b r ∙ ap (λ (q : ℤ × ℤ). divided q 14) (v ∙ ap (turned c.args.x) e)
+    let a : c.floor_shift.result ≡ floor_by t.0 (2 ^ 14) = simp to_z-of_z at c.floor_shift.ensures.value in
+    let b : c.floor_shift-2.result ≡ floor_by t.1 (2 ^ 14) = simp to_z-of_z at c.floor_shift-2.ensures.value in
+    let r : c.new.result ≡ working c.floor_shift.result c.floor_shift-2.result = simp to_z-of_z at c.new.ensures in
+    divided_is t 14 c.floor_shift.result c.floor_shift-2.result _ a b r ∙ ap (λ (q : ℤ × ℤ). divided q 14) (v ∙ ap (turned c.args.x) e)

@@ -7,6 +7,6 @@ pub returns : goal.returns
 unfolding magnitude
 returns c =
     record {
-      value = c.min.ensures ∙ ap (λ (m : ℕ). min m 32768) (c.root-of.ensures.value ∙ ap root c.power-of.ensures);
+      value = c.min.ensures ∙ ap (λ (m : ℕ). min m 32768) (c.root_of.ensures.value ∙ ap root c.power_of.ensures);
       at_most = omega arith;
     }

@@ -3,11 +3,11 @@ use Rattle.std.proofs.lemmas.Int.{ints, to_z-of_z}
 use Rattle.turns.proofs.Turning.{difference_is, sum_is, turned_is, within}
 use Rattle.turns.proofs.turn.turn.Goals as goal
 
-pub overflow-sub-result : goal.overflow-sub-result
-overflow-sub-result c = omega (arith, ints)
+pub overflow_sub-result : goal.overflow_sub-result
+overflow_sub-result c = omega (arith, ints)
 
-pub overflow-add-result : goal.overflow-add-result
-overflow-add-result c = omega (arith, ints)
+pub overflow_add-result : goal.overflow_add-result
+overflow_add-result c = omega (arith, ints)
 
 pub returns : goal.returns
 returns c =
@@ -23,6 +23,6 @@ returns c =
     let im = sum_is c.times-3.result c.times-4.result c.times-3.ensures.within c.times-4.ensures.within in
     record {
       value = turned_is c.args.x c.args.cosine c.args.sine _ _ _ _ _ _ v1 v2 v3 v4 re im;
-      re-within = within _ _ re (record { low = omega (arith, ints); high = omega (arith, ints) });
-      im-within = within _ _ im (record { low = omega (arith, ints); high = omega (arith, ints) });
+      re_within = within _ _ re (record { low = omega (arith, ints); high = omega (arith, ints) });
+      im_within = within _ _ im (record { low = omega (arith, ints); high = omega (arith, ints) });
     }

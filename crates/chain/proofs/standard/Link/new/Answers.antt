@@ -26,8 +26,8 @@ returns g c =
     let propagate = c.new-propagated.ensures.makes ∙ ap₂ (λ (f : List WorkingSample → List WorkingSample) (x : Stream WorkingSample). remade f x) c.new-propagation.ensures transmit in
     let clock = c.new-clocked.ensures.whole ∙ ap (clocked s.clock_bypass (clock_step s.clock.c)) propagate in
     let gain = c.new-gained.ensures.makes ∙ ap₂ (λ (h : Gain) (x : Stream WorkingSample). each (channel_gained h) x) c.new-gain.ensures clock in
-    let noise = c.new-noisy.ensures.makes ∙ ap (each added) (c.new-beside-noise.ensures.whole ∙ ap₂ paired gain (c.new-noise.ensures.whole ∙ every_item s.seeds.re s.seeds.im)) in
+    let noise = c.new-noisy.ensures.makes ∙ ap (each added) (c.new-beside_noise.ensures.whole ∙ ap₂ paired gain (c.new-noise.ensures.whole ∙ every_item s.seeds.re s.seeds.im)) in
     let lead = c.new-led.ensures.whole ∙ ap (λ (i : GainIndex). led s.lead i indices) c.new-first.ensures in
-    let pair = c.new-beside-indices.ensures.whole ∙ ap₂ paired noise lead in
+    let pair = c.new-beside_indices.ensures.whole ∙ ap₂ paired noise lead in
     let receive = ap₂ (λ (f : AirSample × GainIndex → ConverterSample) (x : Stream (AirSample × GainIndex)). each f x) c.new-receiver.ensures pair in
     record { whole = c.new-stages.ensures.makes ∙ receive; left = c.new-stages.ensures.remains ∙ receive }

@@ -5,10 +5,10 @@ use Rattle.impairments.proofs.adding.AddingMapping.apply.Goals as goal
 
 pub returns : goal.returns
 returns c =
-    let x : SFits w64 c.re.result = record { sfits = c.re.type-inv } in
-    let n : SFits w64 c.re-2.result = record { sfits = c.re-2.type-inv } in
-    let y : SFits w64 c.im.result = record { sfits = c.im.type-inv } in
-    let m : SFits w64 c.im-2.result = record { sfits = c.im-2.type-inv } in
+    let x : SFits w64 c.re.result = record { sfits = c.re.type_inv } in
+    let n : SFits w64 c.re-2.result = record { sfits = c.re-2.type_inv } in
+    let y : SFits w64 c.im.result = record { sfits = c.im.type_inv } in
+    let m : SFits w64 c.im-2.result = record { sfits = c.im-2.type_inv } in
     let p : SFits w64 (c.re.result +ℤ c.re-2.result) = omega (arith, ints) in
     let q : SFits w64 (c.im.result +ℤ c.im-2.result) = omega (arith, ints) in
     let e : c.new.result ≡ air (c.re.result +ℤ c.re-2.result) (c.im.result +ℤ c.im-2.result) = simp to_z-of_z at c.new.ensures in

@@ -3,13 +3,13 @@ use Rattle.std.proofs.lemmas.Int.{ints, to_z-of_z}
 use Rattle.samples.specs.Widths.{wider}
 use Rattle.impairments.proofs.dc.DcOffsetMapping.apply.Goals as goal
 
-pub overflow-add-re : goal.overflow-add-re
-overflow-add-re g c =
+pub overflow_add-re : goal.overflow_add-re
+overflow_add-re g c =
     let w = wider g.K.Sample.bits 32 c.re.result g.met.K.Sample.word c.re.ensures.within in
     omega (arith, ints, w.0, w.1)
 
-pub overflow-add-im : goal.overflow-add-im
-overflow-add-im g c =
+pub overflow_add-im : goal.overflow_add-im
+overflow_add-im g c =
     let w = wider g.K.Sample.bits 32 c.im.result g.met.K.Sample.word c.im.ensures.within in
     omega (arith, ints, w.0, w.1)
 
@@ -18,8 +18,8 @@ returns g c =
     let o = c.args.self.now.offset in
     let u = wider g.K.Sample.bits 32 c.re.result g.met.K.Sample.word c.re.ensures.within in
     let v = wider g.K.Sample.bits 32 c.im.result g.met.K.Sample.word c.im.ensures.within in
-    let x : SFits w64 c.re.result = record { sfits = c.re.type-inv } in
-    let y : SFits w64 c.im.result = record { sfits = c.im.type-inv } in
+    let x : SFits w64 c.re.result = record { sfits = c.re.type_inv } in
+    let y : SFits w64 c.im.result = record { sfits = c.im.type_inv } in
     let a : SFits w16 o.re = search rules in
     let b : SFits w16 o.im = search rules in
     let a' : SFits w64 o.re = omega (arith, ints) in

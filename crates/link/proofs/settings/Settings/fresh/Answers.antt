@@ -18,7 +18,7 @@ returns c =
     refl
     c.unit_gain.ensures
     (same_seeds _ _ refl refl)
-    (ap (replicate 128) c.unit-gain-2.ensures)
+    (ap (replicate 128) c.unit_gain-2.ensures)
     refl
     refl
     refl

@@ -6,21 +6,21 @@ use Rattle.link.specs.Checks.{checked_gain}
 use Rattle.link.proofs.Calls.{accepted, put_in, refused, left_alone}
 use Rattle.link.proofs.settings.Settings.set_gain.Goals as goal
 
-pub returns-in-err-self : goal.returns-in-err-self
-returns-in-err-self c =
+pub returns-in_err-self : goal.returns-in_err-self
+returns-in_err-self c =
     let made = checked_gain c.args.shift c.args.factor in
     let p = err_from_is_err_and c.from-residual.result c.from-residual.ensures.1 in
-    let e = c.in-err-self.ensures ∙ ap (λ (z : ℤ). checked_gain z c.args.factor) (to_z-of_z w16 c.args.shift c.ranges.shift) in
+    let e = c.in_err-self.ensures ∙ ap (λ (z : ℤ). checked_gain z c.args.factor) (to_z-of_z w16 c.args.shift c.ranges.shift) in
     record {
-      answers = refused made c.from-residual.result p.0 c.in-err-self.field-0.0 p.1 p.2 e;
-      leaves = left_alone made with_gain c.args.self.now c.in-err-self.field-0.0 e;
+      answers = refused made c.from-residual.result p.0 c.in_err-self.field-0.0 p.1 p.2 e;
+      leaves = left_alone made with_gain c.args.self.now c.in_err-self.field-0.0 e;
     }
 
 pub returns : goal.returns
 returns c =
     let made = checked_gain c.args.shift c.args.factor in
-    let e = c.in-ok-self.ensures ∙ ap (λ (z : ℤ). checked_gain z c.args.factor) (to_z-of_z w16 c.args.shift c.ranges.shift) in
+    let e = c.in_ok-self.ensures ∙ ap (λ (z : ℤ). checked_gain z c.args.factor) (to_z-of_z w16 c.args.shift c.ranges.shift) in
     record {
-      answers = accepted made c.in-ok-self.field-0 e;
-      leaves = put_in made with_gain c.args.self.now c.in-ok-self.field-0 e;
+      answers = accepted made c.in_ok-self.field-0 e;
+      leaves = put_in made with_gain c.args.self.now c.in_ok-self.field-0 e;
     }

@@ -4,25 +4,25 @@ use Rattle.link.specs.Lists.{checked_paths}
 use Rattle.link.proofs.Calls.{accepted, put_in, refused, left_alone, paths_answer}
 use Rattle.link.proofs.settings.Settings.set_paths.Goals as goal
 
-pub returns-in-err-self : goal.returns-in-err-self
-returns-in-err-self c =
+pub returns-in_err-self : goal.returns-in_err-self
+returns-in_err-self c =
     let made = checked_paths c.args.given.now in
     let p = err_from_is_err_and c.from-residual.result c.from-residual.ensures.1 in
-    let e = c.in-err-self.ensures in
-    let answers = refused made c.from-residual.result p.0 c.in-err-self.field-0.0 p.1 p.2 e in
+    let e = c.in_err-self.ensures in
+    let answers = refused made c.from-residual.result p.0 c.in_err-self.field-0.0 p.1 p.2 e in
     record {
       answers = answers;
-      leaves = left_alone made with_paths c.args.self.now c.in-err-self.field-0.0 e;
+      leaves = left_alone made with_paths c.args.self.now c.in_err-self.field-0.0 e;
       first = paths_answer c.args.given.now c.from-residual.result answers;
     }
 
 pub returns : goal.returns
 returns c =
     let made = checked_paths c.args.given.now in
-    let e = c.in-ok-self.ensures in
-    let answers = accepted made c.in-ok-self.field-0 e in
+    let e = c.in_ok-self.ensures in
+    let answers = accepted made c.in_ok-self.field-0 e in
     record {
       answers = answers;
-      leaves = put_in made with_paths c.args.self.now c.in-ok-self.field-0 e;
+      leaves = put_in made with_paths c.args.self.now c.in_ok-self.field-0 e;
       first = paths_answer c.args.given.now _ answers;
     }

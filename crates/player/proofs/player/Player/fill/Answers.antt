@@ -15,7 +15,7 @@ loop-placed-preserved g c =
     let start = standing g.S.Source.whole g.S.Source.left c.args.self.now in
     let s = standing g.S.Source.whole g.S.Source.left c.loop-placed.self in
     let k = c.loop-placed.placed in
-    let a = sym (c.in-ok-item.was ∙ ap Ok c.in-Some.is) ∙ c.more.ensures.answers in
+    let a = sym (c.in_ok-item.was ∙ ap Ok c.in-Some.is) ∙ c.more.ensures.answers in
     let e = goes_on start k s c.loop-placed.invariant.0 (ltb 0 k) c.in-Some.item _ a c.more.ensures.moves in
     let h : k < length c.args.buffer.now = omega arith in
     let b = ap (λ (v : List g.row.S-Item.Denot). set v k c.in-Some.item) c.loop-placed.invariant.1 ∙ placed_more start.left.items c.args.buffer.now k c.in-Some.item h e.1 in
@@ -27,19 +27,19 @@ returns-in-None g c =
     let s = standing g.S.Source.whole g.S.Source.left c.loop-placed.self in
     let k = c.loop-placed.placed in
     let h : k < length c.args.buffer.now = omega arith in
-    let a = sym (c.in-ok-item.was ∙ ap Ok c.in-None.is) ∙ c.more.ensures.answers in
+    let a = sym (c.in_ok-item.was ∙ ap Ok c.in-None.is) ∙ c.more.ensures.answers in
     let e = ends start k s c.loop-placed.invariant.0 (length c.args.buffer.now) h _ c.more.ensures.moves a in
     let b = set-get_or c.loop-placed.buffer k _ ∙ c.loop-placed.invariant.1 ∙ ap (λ (j : ℕ). take j start.left.items ++ drop j c.args.buffer.now) (sym e.1) in
     record { answers = e.0; buffer = b; moves = e.2; plays = plays (fill c.args.buffer.now) (ap₂ filled e.0 b) e.2 }
 
-pub returns-in-err-item : goal.returns-in-err-item
-returns-in-err-item g c =
+pub returns-in_err-item : goal.returns-in_err-item
+returns-in_err-item g c =
     let start = standing g.S.Source.whole g.S.Source.left c.args.self.now in
     let s = standing g.S.Source.whole g.S.Source.left c.loop-placed.self in
     let k = c.loop-placed.placed in
     let h : k < length c.args.buffer.now = omega arith in
-    let a = sym c.in-err-item.was ∙ c.more.ensures.answers in
-    let e = faults start k s c.loop-placed.invariant.0 (length c.args.buffer.now) h _ c.more.ensures.moves (omega arith) c.in-err-item.field-0.0 a in
+    let a = sym c.in_err-item.was ∙ c.more.ensures.answers in
+    let e = faults start k s c.loop-placed.invariant.0 (length c.args.buffer.now) h _ c.more.ensures.moves (omega arith) c.in_err-item.field-0.0 a in
     let p = err_from_is_err_and c.from-residual.result c.from-residual.ensures.1 in
     let r = p.1 ∙ ap Err p.2 ∙ e.0 in
     let b = set-get_or c.loop-placed.buffer k _ ∙ c.loop-placed.invariant.1 ∙ ap (λ (j : ℕ). take j start.left.items ++ drop j c.args.buffer.now) (sym e.1) in

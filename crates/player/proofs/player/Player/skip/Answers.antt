@@ -22,25 +22,25 @@ pub loop-passed-preserved : goal.loop-passed-preserved
 loop-passed-preserved g c =
     let start = standing g.S.Source.whole g.S.Source.left c.args.self.now in
     let s = standing g.S.Source.whole g.S.Source.left c.loop-passed.self in
-    let o = there c.in-ok-more.field-0 c.if-is-none.ensures in
-    let a = sym (c.in-ok-more.was ∙ ap Ok o.1) ∙ c.more.ensures.answers in
+    let o = there c.in_ok-more.field-0 c.if-is_none.ensures in
+    let a = sym (c.in_ok-more.was ∙ ap Ok o.1) ∙ c.more.ensures.answers in
     (goes_on start c.loop-passed.passed s c.loop-passed.invariant (ltb 0 c.loop-passed.passed) o.0 _ a c.more.ensures.moves).0
 
-pub returns-then-is-none : goal.returns-then-is-none
-returns-then-is-none g c =
+pub returns-then-is_none : goal.returns-then-is_none
+returns-then-is_none g c =
     let start = standing g.S.Source.whole g.S.Source.left c.args.self.now in
     let s = standing g.S.Source.whole g.S.Source.left c.loop-passed.self in
-    let o = missing c.in-ok-more.field-0 c.if-is-none.ensures in
-    let a = sym (c.in-ok-more.was ∙ ap Ok o) ∙ c.more.ensures.answers in
+    let o = missing c.in_ok-more.field-0 c.if-is_none.ensures in
+    let a = sym (c.in_ok-more.was ∙ ap Ok o) ∙ c.more.ensures.answers in
     let e = ends start c.loop-passed.passed s c.loop-passed.invariant c.args.n (omega arith) _ c.more.ensures.moves a in
     record { answers = e.0; moves = e.2; plays = plays (skip c.args.n) (ap skipped e.0) e.2 }
 
-pub returns-in-err-more : goal.returns-in-err-more
-returns-in-err-more g c =
+pub returns-in_err-more : goal.returns-in_err-more
+returns-in_err-more g c =
     let start = standing g.S.Source.whole g.S.Source.left c.args.self.now in
     let s = standing g.S.Source.whole g.S.Source.left c.loop-passed.self in
-    let a = sym c.in-err-more.was ∙ c.more.ensures.answers in
-    let e = faults start c.loop-passed.passed s c.loop-passed.invariant c.args.n (omega arith) _ c.more.ensures.moves (omega arith) c.in-err-more.field-0.0 a in
+    let a = sym c.in_err-more.was ∙ c.more.ensures.answers in
+    let e = faults start c.loop-passed.passed s c.loop-passed.invariant c.args.n (omega arith) _ c.more.ensures.moves (omega arith) c.in_err-more.field-0.0 a in
     let p = err_from_is_err_and c.from-residual.result c.from-residual.ensures.1 in
     let r = p.1 ∙ ap Err p.2 ∙ e.0 in
     record { answers = r; moves = e.2; plays = plays (skip c.args.n) (ap skipped r) e.2 }

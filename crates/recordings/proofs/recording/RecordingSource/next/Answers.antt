@@ -11,8 +11,8 @@ returns-in-Some g c =
     let a = g.L.Layout.fixed.align in
     let s = c.args.self.now in
     let f : c.format-align.result.align ≡ a = ap (λ (x : Format). x.align) c.format-align.ensures in
-    let e = from_front meaning a c.format-align.result.align c.min.result s.rest.now c.split-at.result.0.now c.read.result f c.min.ensures c.split-at.ensures.front c.read.ensures in
-    let b = from_back a c.format-align.result.align c.min.result s.rest.now c.split-at.result.1.now f c.min.ensures c.split-at.ensures.back in
+    let e = from_front meaning a c.format-align.result.align c.min.result s.rest.now c.split_at.result.0.now c.read.result f c.min.ensures c.split_at.ensures.front c.read.ensures in
+    let b = from_back a c.format-align.result.align c.min.result s.rest.now c.split_at.result.1.now f c.min.ensures c.split_at.ensures.back in
     let h : s.count - s.place ≡ suc (s.count - (s.place + 1)) = omega arith in
     let p = gives meaning a g.L.Layout.spoilt s.input s.place s.rest.now (s.count - s.place) (s.count - (s.place + 1)) h c.in-Some.item (e ∙ c.in-Some.is) in
     record {
@@ -27,7 +27,7 @@ returns-in-None g c =
     let a = g.L.Layout.fixed.align in
     let s = c.args.self.now in
     let f : c.format-align.result.align ≡ a = ap (λ (x : Format). x.align) c.format-align.ensures in
-    let e = from_front meaning a c.format-align.result.align c.min.result s.rest.now c.split-at.result.0.now c.read.result f c.min.ensures c.split-at.ensures.front c.read.ensures in
+    let e = from_front meaning a c.format-align.result.align c.min.result s.rest.now c.split_at.result.0.now c.read.result f c.min.ensures c.split_at.ensures.front c.read.ensures in
     let h : s.count - s.place ≡ suc (s.count - (s.place + 1)) = omega arith in
     let p = fails meaning a g.L.Layout.spoilt s.input s.place s.rest.now (s.count - s.place) (s.count - (s.place + 1)) h (e ∙ c.in-None.is) in
     record {

@@ -12,7 +12,7 @@ between (negsuc a) = omega (arith, ints, clamps)
 pub returns : goal.returns
 returns c =
     let n : SFits w64 c.args.n = c.ranges.n in
-    let r : SFits w64 c.clamp.result = record { sfits = c.clamp.type-inv } in
+    let r : SFits w64 c.clamp.result = record { sfits = c.clamp.type_inv } in
     let v : c.clamp.result ≡ int_max (pos 0) (int_min c.args.n (pos 127)) = simp to_z-of_z at c.clamp.ensures.value in
     let e : c.clamp.result ≡ pos (nearest_index c.args.n) = v ∙ between c.args.n in
     same_index _ _ (simp to_z-of_z (ap nat_abs e))

@@ -9,8 +9,8 @@ use Rattle.samples.proofs.kinds.ConverterSampleSample.new.Goals as goal
 passed : (z r : ℤ) → SFits w64 z → r ≡ clip 12 (to_z w64 (of_z w64 z)) → r ≡ clip 12 z
 passed z r f e = simp to_z-of_z at e
 
-pub invariant-of-result : goal.invariant-of-result
-invariant-of-result c =
+pub invariant_of-result : goal.invariant_of-result
+invariant_of-result c =
     let r = clip_within 12 c.args.re in
     let i = clip_within 12 c.args.im in
     let p = passed c.args.re c.nearest.result c.ranges.re c.nearest.ensures.value in

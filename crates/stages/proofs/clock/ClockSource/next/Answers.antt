@@ -3,16 +3,16 @@ use Rattle.std.proofs.lemmas.Bool.{leb-true}
 use Rattle.stages.proofs.Outputs.{exhausted}
 use Rattle.stages.proofs.clock.ClockSource.next.Goals as goal
 
-pub returns-in-err-x : goal.returns-in-err-x
-returns-in-err-x g c =
+pub returns-in_err-x : goal.returns-in_err-x
+returns-in_err-x g c =
     let l = c.loop-self.self.line in
-    let p : 2 ^ 53 ≤ l.position = leb-true _ _ (sym c.wants-item.ensures ∙ c.loop-self-test.true) in
+    let p : 2 ^ 53 ≤ l.position = leb-true _ _ (sym c.wants_item.ensures ∙ c.loop-self-test.true) in
     let e = exhausted l.step l.before l.last l.position l.moves p in
     search rules
 
 pub returns-in-None : goal.returns-in-None
 returns-in-None g c =
     let l = c.loop-self.self.line in
-    let p : 2 ^ 53 ≤ l.position = leb-true _ _ (sym c.wants-item.ensures ∙ c.loop-self-test.true) in
+    let p : 2 ^ 53 ≤ l.position = leb-true _ _ (sym c.wants_item.ensures ∙ c.loop-self-test.true) in
     let e = exhausted l.step l.before l.last l.position l.moves p in
     search rules

@@ -4,17 +4,17 @@ use Rattle.samples.specs.Phases.{modulo}
 use Rattle.turns.proofs.PhaseSteps.{modulo_below, offset_step}
 use Rattle.turns.proofs.frequency.FrequencyOffsetMemory.step.Goals as goal
 
-pub invariant-of-self : goal.invariant-of-self
-invariant-of-self c =
+pub invariant_of-self : goal.invariant_of-self
+invariant_of-self c =
     let f : SFits w64 c.args.self.now.f = search rules in
-    let e : c.next-phase-self.result ≡ modulo (pos c.args.self.now.phase -ℤ c.args.self.now.f) (2 ^ 48) = simp to_z-of_z at c.next-phase-self.ensures in
+    let e : c.next_phase-self.result ≡ modulo (pos c.args.self.now.phase -ℤ c.args.self.now.f) (2 ^ 48) = simp to_z-of_z at c.next_phase-self.ensures in
     (omega (arith, e, modulo_below (pos c.args.self.now.phase -ℤ c.args.self.now.f)), tt)
 
 pub returns : goal.returns
 returns c =
     let f : SFits w64 c.args.self.now.f = search rules in
-    let e : c.next-phase-self.result ≡ modulo (pos c.args.self.now.phase -ℤ c.args.self.now.f) (2 ^ 48) = simp to_z-of_z at c.next-phase-self.ensures in
+    let e : c.next_phase-self.result ≡ modulo (pos c.args.self.now.phase -ℤ c.args.self.now.f) (2 ^ 48) = simp to_z-of_z at c.next_phase-self.ensures in
     record {
-      steps = offset_step c.args.self.now.phase c.next-phase-self.result c.args.self.now.f c.args.x c.turn-to-turned.result c.args.self.now.phase_within e c.turn-to-turned.ensures;
+      steps = offset_step c.args.self.now.phase c.next_phase-self.result c.args.self.now.f c.args.x c.turn_to-turned.result c.args.self.now.phase_within e c.turn_to-turned.ensures;
       same = refl;
     }
