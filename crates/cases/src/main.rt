@@ -1,6 +1,8 @@
 // Compares worked cases of recordings with what they should answer, and prints a line for each.
 //
 // The cases stand in tables beside the program, with answers that were worked out by hand or by an independent model.
+#![tactic(auto)]
+
 mod builder;
 mod damaged;
 mod opening;

@@ -2,6 +2,8 @@
 // with what an independent model worked out. Prints a line for each run.
 //
 // What comes out is recorded and compared byte for byte; the answers are compared line by line.
+#![tactic(auto)]
+
 mod inputs;
 mod runs;
 

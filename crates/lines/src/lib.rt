@@ -2,6 +2,8 @@
 //
 // Proved: the lines of a file are the bytes between its line feeds, each of them once and in order; the rest, words and
 // numbers, is safe and ends whatever the bytes are. What words and numbers are read is tested.
+#![tactic(auto)]
+
 pub mod entry;
 pub mod fault;
 pub mod lines;

@@ -3,6 +3,8 @@
 // Proved of the settings: what every one of them is when fresh; a setting call is refused exactly when a number is
 // outside its range, by the first that is, and then leaves the settings as they were; otherwise what it was given stands
 // in the settings, and nothing else has changed.
+#![tactic(auto)]
+
 mod checks;
 pub mod frequency_offset;
 mod neutral;

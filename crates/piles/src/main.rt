@@ -2,6 +2,8 @@
 //
 // The values stand in files beside the program. They were worked out by an independent model, which shares no code with
 // the libraries. Every item, the number of items and the ending are compared, from the start and again after a rewind.
+#![tactic(auto)]
+
 mod comparison;
 mod inputs;
 mod piles;

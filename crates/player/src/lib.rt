@@ -4,6 +4,8 @@
 // player does, which knows only the whole and a place (specs/Plain.antt). And the law of runs (specs/Runs.antt), for every
 // list of calls with any arguments: what comes out at place k, counted from the answers, is item k of the whole; an end or a
 // fault is told exactly where the whole ends, and is the whole's own. `run::run` promises the law.
+#![tactic(auto)]
+
 pub mod calls;
 pub mod fault;
 mod place;

@@ -2,5 +2,7 @@
 //
 // Proved: for every byte string, what opening answers, the rate and everything that the bytes hold, or the refusal; and
 // that an opened recording is a source of exactly those items, which ends with the fault of the first that is spoilt.
+#![tactic(auto)]
+
 pub mod layout;
 pub mod recording;

@@ -3,6 +3,8 @@
 //
 // The whole is taken item by item from a second pile that was made the same way. Prints how many runs and calls were
 // compared, and how many runs were wrong.
+#![tactic(auto)]
+
 mod inputs;
 mod listed;
 mod piles;

@@ -2,6 +2,8 @@
 //
 // Proved: which call each setting makes, what it leaves in the settings, and which refusal comes back. How settings are
 // read from the lines, and carried out one after the other, is proved to be safe and to end, and tested.
+#![tactic(auto)]
+
 pub mod fault;
 mod forms;
 pub mod reader;

@@ -3,5 +3,7 @@
 // At every moment a source means two finite lists of items with an ending, its whole and its left. The trait's contract
 // ties each call to them, so code over any source is proved once, from the contract alone. Proved here: which number
 // each fault has.
+#![tactic(auto)]
+
 pub mod fault;
 pub mod source;

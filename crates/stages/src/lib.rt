@@ -6,6 +6,8 @@
 //
 // Lowest sources here: a held item and noise. Stages: one without and one with a memory, which take their formula from a
 // trait; a lead, a pairing and a clock offset.
+#![tactic(auto)]
+
 pub mod clock;
 pub mod clock_offset;
 pub mod each;

@@ -2,6 +2,8 @@
 //
 // Proved: it plays the whole that the formulas define from the settings and the two wholes, and the law of runs holds of
 // it in those words alone.
+#![tactic(auto)]
+
 ghost use Rattle.std.specs.Prelude.{◌≡◌, map, IfOk};
 ghost use Rattle.chain.specs.Chains.{played};
 ghost use Rattle.chain.specs.Meanings.{chain_whole, chain_left};

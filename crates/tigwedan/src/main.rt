@@ -2,6 +2,8 @@
 //
 // The program reads its arguments and files, calls the libraries and prints. What it answers about a recording comes
 // from them and is proved there; of the program itself it is proved that it is safe and ends.
+#![tactic(auto)]
+
 mod arguments;
 mod bench;
 mod blocks;

@@ -2,6 +2,8 @@
 //
 // Proved: for every byte string and every format that a kind of recording fixes, where the data stands and at which rate,
 // or which refusal is answered with which byte place, the tests being made in byte order.
+#![tactic(auto)]
+
 pub mod bytes;
 pub mod chunks;
 pub mod format;

@@ -1,6 +1,8 @@
 // Worked examples: what the formulas give for a handful of numbers that anybody can follow with a pencil.
 //
 // Proved: all of them at once, over the definitions that the contracts of the stages name.
+#![tactic(auto)]
+
 ghost use Rattle.std.specs.Prelude.{◌≡◌};
 ghost use Rattle.worked.specs.Worked.{Worked, real};
 

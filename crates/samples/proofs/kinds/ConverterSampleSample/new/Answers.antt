@@ -15,7 +15,7 @@ invariant_of-result c =
     let i = clip_within 12 c.args.im in
     let p = passed c.args.re c.nearest.result c.ranges.re c.nearest.ensures.value in
     let q = passed c.args.im c.nearest-2.result c.ranges.im c.nearest-2.ensures.value in
-    ((omega (arith, ints, r.0, r.1), omega (arith, ints, r.0, r.1)), ((omega (arith, ints, i.0, i.1), omega (arith, ints, i.0, i.1)), tt))
+    record { re_within = (omega (arith, ints, r.0, r.1), omega (arith, ints, r.0, r.1)); im_within = (omega (arith, ints, i.0, i.1), omega (arith, ints, i.0, i.1)) }
 
 pub returns : goal.returns
 returns c =
