@@ -1,7 +1,7 @@
 -- One item of noise, and the others from the states after one step.
-use Rattle.std.proofs.Common.{◌≡◌, ℕ, suc, ◌+◌, ◌-◌, ◌<◌, List, ◌∷◌, ℤ, Some, Ok, Option, Result, sym, refl, ap, ◌∙◌, add-one}
+use Rattle.std.proofs.Common.{◌≡◌, ℕ, suc, ◌+◌, ◌-◌, ◌<◌, List, ◌∷◌, ℤ, Some, Ok, Option, Result, sym, ap, ◌∙◌, add-one}
 use Rattle.samples.specs.declared.kinds.AirSample.{AirSample}
-use Rattle.source.specs.Streams.{Stream, answer, rest, first_of, tail, tabulate}
+use Rattle.source.specs.Streams.{answer, rest, first_of, tail, tabulate}
 use Rattle.source.specs.declared.fault.Fault.{Fault}
 use Rattle.source.specs.declared.fault.Ending.TheVariants.{Finished}
 use Rattle.stages.specs.Noise.{stepped, steps, level, noise_item, noise}

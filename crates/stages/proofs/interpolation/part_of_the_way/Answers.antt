@@ -1,4 +1,4 @@
-use Rattle.std.proofs.Common.{◌≡◌, ◌^◌, ◌<◌, pos, ◌*ℤ◌, arith, w32, w64, SFits}
+use Rattle.std.proofs.Common.{◌^◌, ◌<◌, pos, ◌*ℤ◌, arith, w32, w64, SFits}
 use Rattle.std.proofs.lemmas.Int.{ints, clamps, to_z-of_z, to_z_pos}
 use Rattle.samples.specs.Arithmetic.{floor_by}
 use Rattle.stages.proofs.Ways.{shift_is, product_fits, part_between, fits_between}

@@ -1,4 +1,4 @@
-use Rattle.std.proofs.Common.{◌≡◌, ◌^◌, ◌≤◌, sym, ◌∙◌, rules}
+use Rattle.std.proofs.Common.{◌^◌, ◌≤◌, sym, ◌∙◌, rules}
 use Rattle.std.proofs.lemmas.Bool.{leb-true}
 use Rattle.stages.proofs.Outputs.{exhausted}
 use Rattle.stages.proofs.clock.ClockSource.next.Goals as goal

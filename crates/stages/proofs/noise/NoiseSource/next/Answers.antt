@@ -1,7 +1,6 @@
-use Rattle.std.proofs.Common.{◌≡◌, ℕ, ◌-◌, ◌<◌, refl, ap, ◌∙◌, arith, w32, SFits}
+use Rattle.std.proofs.Common.{◌≡◌, ◌<◌, refl, ap, ◌∙◌, arith, w32, SFits}
 use Rattle.std.proofs.lemmas.Int.{to_z-of_z}
-use Rattle.source.specs.Streams.{rest}
-use Rattle.stages.specs.Noise.{stepped, level, noise}
+use Rattle.stages.specs.Noise.{stepped, level}
 use Rattle.stages.proofs.Steps.{first_item, other_items}
 use Rattle.stages.proofs.noise.NoiseSource.next.Goals as goal
 
