@@ -1,7 +1,7 @@
 #!/bin/sh
 # Shows on a small crate that the check refuses two misuses of a recording: adding to one that is finished, which is a
 # move error and so cannot be a must-fail edit, and letting a started one go. The same text without them is proved.
-# It works in a temporary folder; libraries that stand proved in target/ are taken over if they have not changed.
+# It works on copies in a temporary folder.
 set -eu
 cd "$(dirname "$0")/.."
 
@@ -21,19 +21,20 @@ done
 room=$(mktemp -d)
 trap 'rm -rf "$room"' EXIT
 trap 'exit 1' HUP INT TERM
-mkdir -p "$room/crates/misuse/src" "$room/target/rlib" "$room/target/stamp"
+mkdir -p "$room/crates/misuse/src"
 for crate in $needed; do
-    cp -R "crates/$crate" "$room/crates/"
+    mkdir "$room/crates/$crate"
+    for part in src specs proofs; do
+        if [ -d "crates/$crate/$part" ]; then cp -R "crates/$crate/$part" "$room/crates/$crate/"; fi
+    done
     echo "$crate:$(deps_of "$crate")" >>"$room/crates.txt"
-    if [ -d "target/rlib/$crate.rlib" ] && [ -f "target/stamp/$crate" ]; then
-        cp -R "target/rlib/$crate.rlib" "$room/target/rlib/"
-        cp "target/stamp/$crate" "$room/target/stamp/"
-    fi
 done
 echo 'misuse: recorder samples' >>"$room/crates.txt"
 
 cat >"$room/finished" <<'END'
 // A recording of one sample.
+#![tactic(auto)]
+
 use recorder::started::StartedRecording;
 use samples::converter::ConverterSample;
 
@@ -63,7 +64,7 @@ sed 's,finish(recording\, bytes);,bytes.len();,' "$room/finished" >"$room/droppe
 # checks the text; its status is that of the check, and what it says stands in the file 'said'
 checked() { # TEXT
     cp "$room/$1" "$room/crates/misuse/src/lib.rt"
-    (cd "$room" && rt dev misuse) >"$room/said" 2>&1
+    (cd "$room/crates/misuse" && rt check) >"$room/said" 2>&1
 }
 
 fail() {

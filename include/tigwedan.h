@@ -1,6 +1,6 @@
 /* Tigwedan, a radio channel emulator: recordings opened, and the standard chain played over them.
  *
- * Link target/staticlib/libcapi.a, which `rt staticlib capi` proves and builds, and the kit's lib/librattle_c.a behind it.
+ * Link crates/capi/out/libcapi.a, which `rt lib` in crates/capi proves and builds, and the kit's c/liblibc_c.a behind it.
  *
  * No call keeps anything: each takes what it needs, and a run is the same in every bit whenever it is made. Any numbers and
  * any bytes may be handed in; a pointer must be valid for its length, and the buffers of one call must not overlap. With

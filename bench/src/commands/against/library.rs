@@ -54,7 +54,7 @@ pub struct Run {
 }
 
 #[link(name = "capi", kind = "static")]
-#[link(name = "rattle_c", kind = "static")]
+#[link(name = "libc_c", kind = "static")]
 unsafe extern "C" {
     fn tigwedan_open(kind: u32, bytes: *const u8, length: usize, report: *mut Report) -> u32;
 
