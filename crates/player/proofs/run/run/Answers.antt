@@ -33,7 +33,7 @@ pub returns : goal.returns
 returns g c =
     let road = YieldsList-from_shown into_iter_steps (λ x. x) into_iter_items (λ s t h. sym s.rest.ok.0 ∙ h.0) (λ s x t h. h.0) c.into_iter-call-iterator.result in
     let end = YieldsList-end road c.loop-call.yielded c.loop-call.call-iterator c.loop-call.yielded_by c.next.result c.next.new.self c.in-None.is c.next.ensures.steps in
-    let all : c.loop-call.yielded ≡ vec_items c.args.calls = sym (map-id c.loop-call.yielded) ∙ end.0 ∙ c.into_iter-call-iterator.ensures.into_iter-gives.0 in
+    let all : c.loop-call.yielded ≡ vec_items c.args.calls = sym (map-id c.loop-call.yielded) ∙ end.0 ∙ c.into_iter-call-iterator.ensures.into_iter_gives.0 in
     let calls = map asked (vec_items c.args.calls) in
     let answers = map told (vec_items c.loop-call.answers) in
     let w = g.S.Source.whole c.new-player.result.source in

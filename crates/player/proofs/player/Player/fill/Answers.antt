@@ -40,7 +40,7 @@ returns-in_err-item g c =
     let h : k < length c.args.buffer.now = omega arith in
     let a = sym c.in_err-item.was ∙ c.more.ensures.answers in
     let e = faults start k s c.loop-placed.invariant.0 (length c.args.buffer.now) h _ c.more.ensures.moves (omega arith) c.in_err-item.field-0.0 a in
-    let p = err_from_is_err_and c.from-residual.result c.from-residual.ensures.1 in
+    let p = err_from_is_err_and c.from_residual.result c.from_residual.ensures.1 in
     let r = p.1 ∙ ap Err p.2 ∙ e.0 in
     let b = set-get_or c.loop-placed.buffer k _ ∙ c.loop-placed.invariant.1 ∙ ap (λ (j : ℕ). take j start.left.items ++ drop j c.args.buffer.now) (sym e.1) in
     record { answers = r; buffer = b; moves = e.2; plays = plays (fill c.args.buffer.now) (ap₂ filled r b) e.2 }

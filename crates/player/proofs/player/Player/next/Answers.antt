@@ -28,7 +28,7 @@ pub returns-in_err-item : goal.returns-in_err-item
 returns-in_err-item g c =
     let s = standing g.S.Source.whole g.S.Source.left c.args.self.now in
     let t = c.with_place.ensures ∙ ap₂ faults_at c.count.ensures c.next.ensures.answers in
-    let p = err_from_is_err_and c.from-residual.result c.from-residual.ensures.1 in
+    let p = err_from_is_err_and c.from_residual.result c.from_residual.ensures.1 in
     let f = sym (ap placed c.in_err-item.was) ∙ ap placed t ∙ source_answer s.place s.left.items s.left.ending in
     let e = (a_fault s.place s.left.items s.left.ending false _ f).0 in
     let a = p.1 ∙ ap Err p.2 ∙ f in

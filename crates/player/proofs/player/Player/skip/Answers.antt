@@ -41,7 +41,7 @@ returns-in_err-more g c =
     let s = standing g.S.Source.whole g.S.Source.left c.loop-passed.self in
     let a = sym c.in_err-more.was ∙ c.more.ensures.answers in
     let e = faults start c.loop-passed.passed s c.loop-passed.invariant c.args.n (omega arith) _ c.more.ensures.moves (omega arith) c.in_err-more.field-0.0 a in
-    let p = err_from_is_err_and c.from-residual.result c.from-residual.ensures.1 in
+    let p = err_from_is_err_and c.from_residual.result c.from_residual.ensures.1 in
     let r = p.1 ∙ ap Err p.2 ∙ e.0 in
     record { answers = r; moves = e.2; plays = plays (skip c.args.n) (ap skipped r) e.2 }
 
