@@ -1,5 +1,5 @@
 -- The phase moves by one offset from sample to sample, and what is made of a list goes on from there.
-use Rattle.std.proofs.Common.{◌≡◌, ℕ, zero, suc, ◌+◌, ◌/◌, ◌^◌, ◌<◌, List, [], ◌∷◌, ℤ, pos, negsuc, ◌+ℤ◌, ◌-ℤ◌, ◌*ℤ◌, neg_ℤ, sym, refl, ap, ◌∙◌, ap₂, add-one, arith}
+use Rattle.std.proofs.Common.{◌≡◌, ℕ, ◌+◌, ◌/◌, ◌^◌, ◌<◌, List, [], ◌∷◌, ℤ, pos, negsuc, ◌+ℤ◌, ◌-ℤ◌, ◌*ℤ◌, neg_ℤ, sym, refl, ap, ◌∙◌, ap₂, add-one, arith}
 use lib.IntN.{zero-*ℤ, pred_ℤ, pred_ℤ-*ℤ, neg_ℤ-suc_ℤ}
 use Rattle.std.proofs.lemmas.Int.{ints}
 use Rattle.samples.specs.Phases.{modulo}

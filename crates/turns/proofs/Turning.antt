@@ -1,5 +1,5 @@
 -- The two sums of a complex product stay within 64 bits.
-use Rattle.std.proofs.Common.{◌≡◌, ℕ, ◌^◌, ℤ, ◌+ℤ◌, ◌-ℤ◌, ◌*ℤ◌, ◌∙◌, ap₂, arith, w64, SFits, to_z, of_z}
+use Rattle.std.proofs.Common.{◌≡◌, ℕ, ◌^◌, ℤ, ◌+ℤ◌, ◌-ℤ◌, ◌*ℤ◌, ◌∙◌, ap₂, arith, w64, to_z, of_z}
 use Rattle.std.proofs.lemmas.Int.{ints}
 use Rattle.samples.specs.Arithmetic.{floor_by}
 use Rattle.samples.specs.Bounds.{Between}

@@ -1,5 +1,5 @@
 -- The amplifier: amplitude and phase by the magnitude of the sample, from a table of 513 entries.
-use Rattle.std.specs.Prelude.{ℕ, zero, suc, ◌+◌, ◌-◌, ◌*◌, ◌/◌, ◌≤◌, min, List, ℤ, pos, ◌+ℤ◌, ◌-ℤ◌, ◌*ℤ◌, slice_index_or, unsigned_abs}
+use Rattle.std.specs.Prelude.{ℕ, zero, suc, ◌+◌, ◌-◌, ◌*◌, ◌/◌, min, List, ℤ, pos, ◌+ℤ◌, ◌-ℤ◌, ◌*ℤ◌, slice_index_or, unsigned_abs}
 use Rattle.std.proofs.Common.{arith}
 use Rattle.samples.specs.Arithmetic.{floor_by}
 use Rattle.samples.specs.Phases.{index_16}

@@ -1,4 +1,4 @@
-use Rattle.std.proofs.Common.{◌≡◌, ◌/◌, get_or, arith, w16, w64, SFits, rules}
+use Rattle.std.proofs.Common.{◌/◌, get_or, w16, w64, SFits, rules}
 use Rattle.std.proofs.lemmas.Int.{to_z-of_z}
 use Rattle.turns.proofs.Interpolations.{amplitude_read, phase_read}
 use Rattle.turns.proofs.amplifier.entry_at.Goals as goal

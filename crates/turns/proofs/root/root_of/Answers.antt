@@ -11,6 +11,6 @@ returns-then-square-m c =
 
 pub returns-else-m-square : goal.returns-else-m-square
 returns-else-m-square c =
-    let p : Root c.args.n c.isqrt.result = record { at_most = c.isqrt.ensures.square_le; greatest = c.isqrt.ensures.next-square-gt } in
+    let p : Root c.args.n c.isqrt.result = record { at_most = c.isqrt.ensures.square_le; greatest = c.isqrt.ensures.next_square_gt } in
     let h : c.args.n < 2 ^ 82 = omega arith in
     record { value = only_root _ _ _ p (root_is c.args.n h); greatest = p }
