@@ -5,7 +5,6 @@ use Rattle.std.proofs.lemmas.Bool.{ltb-false}
 use Rattle.std.specs.List.{slice_get}
 use Rattle.source.specs.declared.fault.Ending.{Ending}
 use Rattle.source.specs.declared.fault.Ending.TheVariants.{Finished}
-use Rattle.player.proofs.Cases.{never}
 use Rattle.player.proofs.Endings.{answers_ending, answers_some, an_item, no_item, a_fault}
 use Rattle.player.proofs.Standings.{nth_drop}
 use Rattle.player.specs.Plain.{stopped, ending_answer, answer_of}
@@ -106,7 +105,7 @@ module _ {T : Type 0} (start : Standing T) where
 
 -- the buffer when k items of the source stand in it, and one more is put in
 pub placed_more : {T : Type 0} (xs buffer : List T) (k : ℕ) (x : T) → k < length buffer → slice_get xs k ≡ Some x → set (take k xs ++ drop k buffer) k x ≡ take (k + 1) xs ++ drop (k + 1) buffer
-placed_more [] buffer k x h i = never (cc)
+placed_more [] buffer k x h i = cc
 placed_more (y ∷ xs) [] k x h i = absurd (omega arith)
 placed_more (y ∷ xs) (b ∷ buffer) zero x h i = let e : x ≡ y = cc in ap (λ v. v ∷ buffer) e
 placed_more (y ∷ xs) (b ∷ buffer) (suc k) x h i = rw suc-add (ap (λ v. y ∷ v) (placed_more xs buffer k x (omega arith) i))

@@ -5,7 +5,6 @@ use Rattle.std.specs.List.{slice_get}
 use Rattle.source.specs.Streams.{first_of}
 use Rattle.source.specs.declared.fault.Ending.{Ending}
 use Rattle.source.specs.declared.fault.Ending.TheVariants.{Finished, Faulted}
-use Rattle.player.proofs.Cases.{never}
 use Rattle.player.specs.Plain.{player_fault, ending_answer, none_came, answer_of}
 use Rattle.player.specs.Standing.{faults_at, left_to_later}
 use Rattle.player.specs.declared.fault.FaultAt.{FaultAt}
@@ -50,22 +49,22 @@ module _ {T : Type 0} (place : ℕ) where
   pub an_item : (items : List T) (e : Ending) (got : Bool) (x : T) → Ok (Some x) ≡ left_to_later got (answer_of e place 1 (min 1 (length items)) None (slice_get items 0)) → (slice_get items 0 ≡ Some x) × (1 ≤ length items)
   an_item (y ∷ ys) e true x h = let k = rw (one_of_some y ys) at h in (cc, omega arith)
   an_item (y ∷ ys) e false x h = let k = rw (one_of_some y ys) at h in (cc, omega arith)
-  an_item [] Finished true x h = never (cc)
-  an_item [] Finished false x h = never (cc)
-  an_item [] (Faulted f) true x h = never (cc)
-  an_item [] (Faulted f) false x h = never (cc)
+  an_item [] Finished true x h = cc
+  an_item [] Finished false x h = cc
+  an_item [] (Faulted f) true x h = cc
+  an_item [] (Faulted f) false x h = cc
 
   pub no_item : (items : List T) (e : Ending) (got : Bool) → Ok None ≡ left_to_later got (answer_of e place 1 (min 1 (length items)) None (slice_get items 0)) → (length items ≡ 0) × (got ≡ false → e ≡ Finished)
-  no_item (y ∷ ys) e true h = let k = rw (one_of_some y ys) at h in never (cc)
-  no_item (y ∷ ys) e false h = let k = rw (one_of_some y ys) at h in never (cc)
+  no_item (y ∷ ys) e true h = let k = rw (one_of_some y ys) at h in cc
+  no_item (y ∷ ys) e false h = let k = rw (one_of_some y ys) at h in cc
   no_item [] Finished got h = (refl, λ _. refl)
-  no_item [] (Faulted f) true h = (refl, λ k. never (cc))
-  no_item [] (Faulted f) false h = never (cc)
+  no_item [] (Faulted f) true h = (refl, λ k. cc)
+  no_item [] (Faulted f) false h = cc
 
   pub a_fault : (items : List T) (e : Ending) (got : Bool) (f : PlayerFault) → Err f ≡ left_to_later got (answer_of e place 1 (min 1 (length items)) None (slice_get items 0)) → (length items ≡ 0) × (got ≡ false) × (Err f ≡ ending_answer {A = ℕ} e place 0)
-  a_fault (y ∷ ys) e true f h = let k = rw (one_of_some y ys) at h in never (cc)
-  a_fault (y ∷ ys) e false f h = let k = rw (one_of_some y ys) at h in never (cc)
-  a_fault [] Finished true f h = never (cc)
-  a_fault [] Finished false f h = never (cc)
-  a_fault [] (Faulted g) true f h = never (cc)
+  a_fault (y ∷ ys) e true f h = let k = rw (one_of_some y ys) at h in cc
+  a_fault (y ∷ ys) e false f h = let k = rw (one_of_some y ys) at h in cc
+  a_fault [] Finished true f h = cc
+  a_fault [] Finished false f h = cc
+  a_fault [] (Faulted g) true f h = cc
   a_fault [] (Faulted g) false f h = (refl, refl, cc)

@@ -10,7 +10,6 @@ use Rattle.player.specs.declared.fault.PlayerFault.{PlayerFault}
 use Rattle.player.specs.Calls.{Asked, next, fill, skip, rewind, wanted, Told, item, filled, skipped}
 use Rattle.player.specs.Plain.{handed_out, stopped, player_fault, ending_answer, none_came, answer_of, plain_next, plain_count, plain_buffer, plain_answer, plain_place, plain_run}
 use Rattle.player.specs.Runs.{brought_out, counted, place_after, count_ending, ending_told, fault_told, Turn, place_at, LawOfRuns}
-use Rattle.player.proofs.Cases.{never}
 use Rattle.player.proofs.Endings.{none_came_true, none_came_some, none_came_unwanted, answers_ending, answers_some, answers_unwanted}
 
 -- What a call comes to, at place p of the whole w: it wants items at the end, or it has something to tell.
@@ -48,7 +47,7 @@ module _ (p : ℕ) where
   end_brings T (Faulted f) = refl
 
   end_fault : {A : Type 0} (e : Ending) (nothing : A) (f : PlayerFault) → Err f ≡ ending_answer e p nothing → f.place ≡ stopped p
-  end_fault Finished nothing f h = never (cc)
+  end_fault Finished nothing f h = cc
   end_fault (Faulted g) nothing f h = let k : f ≡ player_fault g p = cc in ap (λ (v : PlayerFault). v.place) k
 
 -- What the law says of one answer to a call at place p.
@@ -70,14 +69,14 @@ nth_from (suc p) [] j = refl
 nth_from (suc p) (x ∷ xs) j = rw suc-add (nth_from p xs j)
 
 nth_front : {T : Type 0} (t : ℕ) (xs : List T) (j : ℕ) (x : T) → slice_get (take t xs) j ≡ Some x → slice_get xs j ≡ Some x
-nth_front zero xs j x h = never (cc)
+nth_front zero xs j x h = cc
 nth_front (suc t) [] j x h = h
 nth_front (suc t) (y ∷ xs) zero x h = h
 nth_front (suc t) (y ∷ xs) (suc j) x h = nth_front t xs j x h
 
 only_one : {T : Type 0} (y x : T) (j : ℕ) → slice_get (y ∷ []) j ≡ Some x → (j ≡ 0) × (y ≡ x)
 only_one y x zero h = (refl, cc)
-only_one y x (suc j) h = never (cc)
+only_one y x (suc j) h = cc
 
 module _ {T : Type 0} (w : Stream T) (p : ℕ) (inside : p ≤ length w.items) where
   -- a count of items
@@ -89,8 +88,8 @@ module _ {T : Type 0} (w : Stream T) (p : ℕ) (inside : p ≤ length w.items) w
 
     count_only : (r : Result ℕ PlayerFault) → Outcome w p n 0 (handed_out w p n) r → (e : Ending) → count_ending n r ≡ Some e → (0 < n) × (p ≡ length w.items) × (e ≡ w.ending)
     count_only r (at_end h k q) e i = let m = sym i ∙ ap (count_ending n) q ∙ end_told p n w.ending h in (h, k, cc)
-    count_only r (some h q) e i = let m = sym i ∙ ap (count_ending n) q ∙ cond-false (none_came n (handed_out w p n)) (Some Finished) None (none_came_some n (handed_out w p n) h) in never (cc)
-    count_only r (unwanted h q) e i = let m = sym i ∙ ap (count_ending n) q ∙ cond-false (none_came n (handed_out w p n)) (Some Finished) None (none_came_unwanted n (handed_out w p n) h) in never (cc)
+    count_only r (some h q) e i = let m = sym i ∙ ap (count_ending n) q ∙ cond-false (none_came n (handed_out w p n)) (Some Finished) None (none_came_some n (handed_out w p n) h) in cc
+    count_only r (unwanted h q) e i = let m = sym i ∙ ap (count_ending n) q ∙ cond-false (none_came n (handed_out w p n)) (Some Finished) None (none_came_unwanted n (handed_out w p n) h) in cc
 
     count_always : (r : Result ℕ PlayerFault) → Outcome w p n 0 (handed_out w p n) r → 0 < n → p ≡ length w.items → count_ending n r ≡ Some w.ending
     count_always r (at_end h k q) i j = ap (count_ending n) q ∙ end_told p n w.ending h
@@ -100,8 +99,8 @@ module _ {T : Type 0} (w : Stream T) (p : ℕ) (inside : p ≤ length w.items) w
   -- the place in a fault
   tells_place : {A : Type 0} (n : ℕ) (nothing told : A) (r : Result A PlayerFault) → Outcome w p n nothing told r → (f : PlayerFault) → r ≡ Err f → f.place ≡ stopped p
   tells_place n nothing told r (at_end h k q) f i = end_fault p w.ending nothing f (sym i ∙ q)
-  tells_place n nothing told r (some h q) f i = never (cc)
-  tells_place n nothing told r (unwanted h q) f i = never (cc)
+  tells_place n nothing told r (some h q) f i = cc
+  tells_place n nothing told r (unwanted h q) f i = cc
 
   -- the items that a fill puts into its buffer
   placed : (buffer : List T) (j : ℕ) (x : T) → slice_get (take (handed_out w p (length buffer)) (plain_buffer w p buffer)) j ≡ Some x → slice_get w.items (p + j) ≡ Some x
@@ -113,7 +112,7 @@ module _ {T : Type 0} (w : Stream T) (p : ℕ) (inside : p ≤ length w.items) w
       sym (nth_from p w.items j) ∙ k
 
   fill_brings : (buffer : List T) (r : Result ℕ PlayerFault) → Outcome w p (length buffer) 0 (handed_out w p (length buffer)) r → (j : ℕ) (x : T) → slice_get (brought_out (filled r (plain_buffer w p buffer))) j ≡ Some x → slice_get w.items (p + j) ≡ Some x
-  fill_brings buffer (Err f) o j x h = never (cc)
+  fill_brings buffer (Err f) o j x h = cc
   fill_brings buffer (Ok c) o j x h =
       let k : c ≡ handed_out w p (length buffer) = counts_as (length buffer) (Ok c) o in
       placed buffer j x (ap (λ (i : ℕ). slice_get (take i (plain_buffer w p buffer)) j) (sym k) ∙ h)
@@ -121,7 +120,7 @@ module _ {T : Type 0} (w : Stream T) (p : ℕ) (inside : p ≤ length w.items) w
   -- next
   module _ (r : Result (Option T) PlayerFault) where
     next_brings : Outcome w p 1 None (slice_get w.items p) r → (j : ℕ) (x : T) → slice_get (brought_out (item r)) j ≡ Some x → slice_get w.items (p + j) ≡ Some x
-    next_brings (at_end h k q) j x i = let m = sym i ∙ ap (λ v. slice_get (brought_out (item v)) j) q ∙ ap (λ xs. slice_get xs j) (end_brings p T w.ending) in never (cc)
+    next_brings (at_end h k q) j x i = let m = sym i ∙ ap (λ v. slice_get (brought_out (item v)) j) q ∙ ap (λ xs. slice_get xs j) (end_brings p T w.ending) in cc
     next_brings (some h q) j x i =
         let y = nth_some w.items p (omega arith) in
         let m = ap (λ v. slice_get (brought_out (item v)) j) (sym (ap Ok y.1) ∙ sym q) ∙ i in
@@ -142,7 +141,7 @@ module _ {T : Type 0} (w : Stream T) (p : ℕ) (inside : p ≤ length w.items) w
     next_only (at_end h k q) e i = let m = sym i ∙ ap (λ v. ending_told 1 (item v)) q ∙ item_told p T w.ending in (h, k, cc)
     next_only (some h q) e i =
         let y = nth_some w.items p (omega arith) in
-        let m = sym i ∙ ap (λ v. ending_told 1 (item v)) (q ∙ ap Ok y.1) in never (cc)
+        let m = sym i ∙ ap (λ v. ending_told 1 (item v)) (q ∙ ap Ok y.1) in cc
     next_only (unwanted h q) e i = absurd (omega arith)
 
     next_always : Outcome w p 1 None (slice_get w.items p) r → p ≡ length w.items → ending_told 1 (item r) ≡ Some w.ending
@@ -151,15 +150,15 @@ module _ {T : Type 0} (w : Stream T) (p : ℕ) (inside : p ≤ length w.items) w
     next_always (unwanted h q) j = absurd (omega arith)
 
 err_of_item : {T : Type 0} (r : Result (Option T) PlayerFault) (f : PlayerFault) → fault_told (item r) ≡ Some f → r ≡ Err f
-err_of_item (Ok o) f h = never (cc)
+err_of_item (Ok o) f h = cc
 err_of_item (Err g) f h = cc
 
 err_of_fill : {T : Type 0} (r : Result ℕ PlayerFault) (b : List T) (f : PlayerFault) → fault_told (filled r b) ≡ Some f → r ≡ Err f
-err_of_fill (Ok t) b f h = never (cc)
+err_of_fill (Ok t) b f h = cc
 err_of_fill (Err g) b f h = cc
 
 err_of_skip : (T : Type 0) (r : Result ℕ PlayerFault) (f : PlayerFault) → fault_told {T = T} (skipped r) ≡ Some f → r ≡ Err f
-err_of_skip T (Ok t) f h = never (cc)
+err_of_skip T (Ok t) f h = cc
 err_of_skip T (Err g) f h = cc
 
 lawful : {T : Type 0} (w : Stream T) (p : ℕ) (call : Asked T) → p ≤ length w.items → Lawful w p call (plain_answer w p call)
@@ -188,7 +187,7 @@ lawful {T} w p (skip n) h =
     let r = plain_count w p n in
     let o = outcome w p n 0 (handed_out w p n) h in
     record {
-      in_place = λ j x k. never (cc);
+      in_place = λ j x k. cc;
       counts = ap (λ k. p + k) (counts_as w p h n r o);
       only = count_only w p h n r o;
       always = count_always w p h n r o;
@@ -196,11 +195,11 @@ lawful {T} w p (skip n) h =
     }
 lawful w p rewind h =
     record {
-      in_place = λ j x k. never (cc);
+      in_place = λ j x k. cc;
       counts = refl;
-      only = λ e k. never (cc);
+      only = λ e k. cc;
       always = λ k. absurd (omega arith);
-      fault_place = λ f k. never (cc);
+      fault_place = λ f k. cc;
     }
 
 place_inside : {T : Type 0} (w : Stream T) (p : ℕ) (call : Asked T) → p ≤ length w.items → plain_place w p call ≤ length w.items
@@ -212,7 +211,7 @@ place_inside w p rewind h = omega arith
 module _ {T : Type 0} (w : Stream T) where
   -- each turn of the plain player's run, at the place that the answers before it tell
   at_turn : (calls : List (Asked T)) (p : ℕ) → p ≤ length w.items → (i : ℕ) (call : Asked T) (a : Told T) → slice_get calls i ≡ Some call → slice_get (plain_run w p calls) i ≡ Some a → Lawful w (fold place_after p (take i (plain_run w p calls))) call a
-  at_turn [] p h i call a c r = never (cc)
+  at_turn [] p h i call a c r = cc
   at_turn (k ∷ calls) p h zero call a c r =
       let e : k ≡ call = cc in
       let f : plain_answer w p k ≡ a = cc in

@@ -1,4 +1,3 @@
-mod Cases
 mod Counting
 mod Endings
 mod Laws

@@ -2,17 +2,16 @@ use Rattle.std.proofs.Common.{◌≡◌, ◌≤◌, true, false, ltb, length, is
 use Rattle.std.proofs.lemmas.Result.{err_from_is_err_and}
 use Rattle.player.specs.Calls.{skip, skipped}
 use Rattle.player.specs.Standing.{standing, onward}
-use Rattle.player.proofs.Cases.{never}
 use Rattle.player.proofs.Counting.{begun, goes_on, ends, faults, all}
 use Rattle.player.proofs.Standings.{plays}
 use Rattle.player.proofs.player.Player.skip.Goals as goal
 
 there : {T : Type 0} (o : Option T) → is_some o ≡ true → (x : T) × (o ≡ Some x)
 there (Some x) h = (x, refl)
-there None h = never (cc)
+there None h = cc
 
 missing : {T : Type 0} (o : Option T) → is_some o ≡ false → o ≡ None
-missing (Some x) h = never (cc)
+missing (Some x) h = cc
 missing None h = refl
 
 pub loop-passed-init : goal.loop-passed-init
