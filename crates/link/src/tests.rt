@@ -102,7 +102,8 @@ fn table_at_the_limits(rt: HostRuntime) {
     );
     amplitudes[512] = 32767;
     assert_eq!(rt; s.set_amplifier_table(&amplitudes, &phases), Ok(()));
-    assert_eq!(rt; s.amplifier.entries[512].phase, -5);
+    let phase = s.amplifier.entries[512].phase;
+    assert_eq!(rt; phase, -5);
 }
 
 #[test]
