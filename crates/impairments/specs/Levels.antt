@@ -1,7 +1,7 @@
 -- The formulas of the stages that treat each sample on its own.
 use Rattle.std.specs.Prelude.{ℕ, suc, ◌^◌, List, ℤ, pos, negsuc, ◌+ℤ◌, ◌-ℤ◌, ◌*ℤ◌, slice_index_or}
-use Rattle.std.proofs.Common.{lit≤, arith}
-use Rattle.std.proofs.lemmas.Int.{ints}
+use Rattle.std.specs.Int.Signed.{le_z_yes}
+use Rattle.std.proofs.Common.{lit≤}
 use Rattle.samples.specs.Arithmetic.{floor_by}
 use Rattle.samples.specs.Kinds.{converter, working, air}
 use Rattle.samples.specs.declared.converter.ConverterSample.{ConverterSample}
@@ -54,8 +54,8 @@ unity =
     record {
       shift = pos 1;
       factor = 128;
-      shift_low = omega (arith, ints);
-      shift_high = omega (arith, ints);
+      shift_low = le_z_yes tt;
+      shift_high = le_z_yes tt;
       factor_low = lit≤ tt;
       factor_high = lit≤ tt;
     }

@@ -1,5 +1,5 @@
-use Rattle.std.proofs.Common.{◌≡◌, ℤ, ◌+ℤ◌, ap, ◌∙◌, ap₂, arith, w16, w64, SFits, rules}
-use Rattle.std.proofs.lemmas.Int.{ints, to_z-of_z}
+use Rattle.std.proofs.Common.{◌≡◌, ap, ◌∙◌, ap₂, w64, SFits}
+use Rattle.std.proofs.lemmas.Int.{to_z-of_z}
 use Rattle.samples.specs.Widths.{wider}
 use Rattle.impairments.specs.Levels.{balanced_re, balanced_im}
 use Rattle.impairments.proofs.imbalance.ImbalanceMapping.apply.Goals as goal

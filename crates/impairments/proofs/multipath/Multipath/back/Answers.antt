@@ -1,4 +1,4 @@
-use Rattle.std.proofs.Common.{◌≡◌, ℕ, ◌+◌, get_or, ap}
+use Rattle.std.proofs.Common.{ℕ, ◌+◌, get_or, ap}
 use Rattle.std.proofs.lemmas.Nat.{and_mask}
 use Rattle.impairments.specs.Multipath.{silent}
 use Rattle.impairments.proofs.multipath.Multipath.back.Goals as goal
