@@ -2,7 +2,7 @@
 use Rattle.std.proofs.Common.{◌≡◌, ℕ, ◌≤◌, List, length, ℤ, ◌≤ℤ◌}
 use mathlib.Core.Path.{PathP, to_path_p}
 use native.Mathlib.Bridge.{le_prop}
-use denote.Struct.Props.{≤ℤ_prop, ≡_prop}
+use denote.Struct.Props.{props, ≡_prop}
 use base.Stored.{coded_ℕ}
 use Rattle.turns.specs.declared.entry.Entry.{Entry}
 use Rattle.impairments.specs.declared.gain.Gain.{Gain}
@@ -22,10 +22,10 @@ over : (n : ℕ) {x y : ℕ} (p : x ≡ y) (u : n ≤ x) (v : n ≤ y) → PathP
 over n p u v = to_path_p (λ i. n ≤ p i) (le_prop _ v)
 
 under_ℤ : (z : ℤ) {x y : ℤ} (p : x ≡ y) (u : x ≤ℤ z) (v : y ≤ℤ z) → PathP (λ i. p i ≤ℤ z) u v
-under_ℤ z p u v = to_path_p (λ i. p i ≤ℤ z) (≤ℤ_prop _ v)
+under_ℤ z {y = y} p u v = let one : IsProp (y ≤ℤ z) = hlevel props in to_path_p (λ i. p i ≤ℤ z) (one _ v)
 
 over_ℤ : (z : ℤ) {x y : ℤ} (p : x ≡ y) (u : z ≤ℤ x) (v : z ≤ℤ y) → PathP (λ i. z ≤ℤ p i) u v
-over_ℤ z p u v = to_path_p (λ i. z ≤ℤ p i) (≤ℤ_prop _ v)
+over_ℤ z {y = y} p u v = let one : IsProp (z ≤ℤ y) = hlevel props in to_path_p (λ i. z ≤ℤ p i) (one _ v)
 
 long : {X : Type 0} (n : ℕ) {xs ys : List X} (p : xs ≡ ys) (u : length xs ≡ n) (v : length ys ≡ n) → PathP (λ i. length (p i) ≡ n) u v
 long n p u v = to_path_p (λ i. length (p i) ≡ n) (≡_prop coded_ℕ _ _ _ v)

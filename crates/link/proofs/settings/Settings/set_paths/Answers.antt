@@ -7,13 +7,13 @@ use Rattle.link.proofs.settings.Settings.set_paths.Goals as goal
 pub returns-in_err-self : goal.returns-in_err-self
 returns-in_err-self c =
     let made = checked_paths c.args.given.now in
-    let p = err_from_is_err_and c.from-residual.result c.from-residual.ensures.1 in
+    let p = err_from_is_err_and c.from_residual.result c.from_residual.ensures.1 in
     let e = c.in_err-self.ensures in
-    let answers = refused made c.from-residual.result p.0 c.in_err-self.field-0.0 p.1 p.2 e in
+    let answers = refused made c.from_residual.result p.0 c.in_err-self.field-0.0 p.1 p.2 e in
     record {
       answers = answers;
       leaves = left_alone made with_paths c.args.self.now c.in_err-self.field-0.0 e;
-      first = paths_answer c.args.given.now c.from-residual.result answers;
+      first = paths_answer c.args.given.now c.from_residual.result answers;
     }
 
 pub returns : goal.returns

@@ -9,10 +9,10 @@ use Rattle.link.proofs.settings.Settings.set_receive_gain.Goals as goal
 pub returns-in_err-self : goal.returns-in_err-self
 returns-in_err-self c =
     let made = checked_receive_gain c.args.index c.args.shift c.args.factor in
-    let p = err_from_is_err_and c.from-residual.result c.from-residual.ensures.1 in
+    let p = err_from_is_err_and c.from_residual.result c.from_residual.ensures.1 in
     let e = c.in_err-self.ensures.value ∙ ap (λ (z : ℤ). checked_receive_gain c.args.index z c.args.factor) (to_z-of_z w16 c.args.shift c.ranges.shift) in
     record {
-      answers = refused made c.from-residual.result p.0 c.in_err-self.field-0.0 p.1 p.2 e;
+      answers = refused made c.from_residual.result p.0 c.in_err-self.field-0.0 p.1 p.2 e;
       leaves = left_alone made (with_receive_gain c.args.index) c.args.self.now c.in_err-self.field-0.0 e;
     }
 
