@@ -205,7 +205,7 @@ pub(crate) fn noise_twice(
 #[derive(Clone, Copy)]
 pub(crate) enum End {
     Gain,
-    ConverterSample,
+    Converter,
 }
 
 // DC offset, imbalance and converter.

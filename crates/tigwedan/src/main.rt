@@ -21,10 +21,7 @@ mod report;
 
 use arguments::Command;
 use failure::Failure;
-
-// The program ends with status 1; why, it has told.
-#[derive(Clone, Copy)]
-struct Failed;
+use std::process::ExitCode;
 
 fn run<'a>(rt: &HostRuntime, words: &'a [String]) -> Result<(), Failure<'a>> {
     match arguments::parse(words)? {
@@ -36,19 +33,20 @@ fn run<'a>(rt: &HostRuntime, words: &'a [String]) -> Result<(), Failure<'a>> {
     }
 }
 
-fn main(rt: HostRuntime) -> Result<(), Failed> {
+// Why it ends with status 1 the program has told.
+fn main(rt: HostRuntime) -> ExitCode {
     let words = match arguments::words(&rt) {
         Ok(words) => words,
         Err(error) => {
             let _ = eprintln!(rt; "tigwedan: the arguments cannot be read: {error}");
-            return Err(Failed);
+            return ExitCode::FAILURE;
         }
     };
     match run(&rt, words.as_slice()) {
-        Ok(()) => Ok(()),
+        Ok(()) => ExitCode::SUCCESS,
         Err(failure) => {
             let _ = failure.tell(&rt);
-            Err(Failed)
+            ExitCode::FAILURE
         }
     }
 }
