@@ -1,14 +1,11 @@
-use Rattle.std.proofs.Common.{◌≡◌, ◌^◌, pos, ◌-ℤ◌, refl, arith, w64, SFits, rules}
+use Rattle.std.proofs.Common.{◌≡◌, ◌^◌, pos, ◌-ℤ◌, refl, w64, SFits, rules}
 use Rattle.std.proofs.lemmas.Int.{to_z-of_z}
 use Rattle.samples.specs.Phases.{modulo}
 use Rattle.turns.proofs.PhaseSteps.{modulo_below, offset_step}
 use Rattle.turns.proofs.frequency.FrequencyOffsetMemory.step.Goals as goal
 
 pub invariant_of-self : goal.invariant_of-self
-invariant_of-self c =
-    let f : SFits w64 c.args.self.now.f = search rules in
-    let e : c.next_phase-self.result ≡ modulo (pos c.args.self.now.phase -ℤ c.args.self.now.f) (2 ^ 48) = simp to_z-of_z at c.next_phase-self.ensures in
-    record { phase_within = omega (arith, e, modulo_below (pos c.args.self.now.phase -ℤ c.args.self.now.f)) }
+invariant_of-self c = record { phase_within = rw c.next_phase-self.ensures (modulo_below _) }
 
 pub returns : goal.returns
 returns c =
