@@ -1,6 +1,6 @@
 -- What was written comes back: opening a finished recording hands out what was put in.
-use Rattle.std.proofs.Common.{◌≡◌, ℕ, zero, suc, ◌+◌, ◌-◌, ◌*◌, ◌/◌, ◌%◌, ◌^◌, ◌<◌, ◌≤◌, Bool, true, false, cond, ◌&&◌, eqb, ltb, leb, List, [], ◌∷◌, ◌++◌, map, length, get_or, take, drop, ℤ, pos, negsuc, Some, None, Ok, Err, Option, Result, sym, refl, ap, ◌∙◌, ap₂, arith}
-use Rattle.std.proofs.lemmas.List.{length-append, take_all}
+use Rattle.std.proofs.Common.{◌≡◌, ℕ, suc, ◌+◌, ◌-◌, ◌*◌, ◌/◌, ◌%◌, ◌^◌, ◌<◌, ◌≤◌, Bool, true, false, cond, ◌&&◌, eqb, ltb, leb, List, [], ◌∷◌, ◌++◌, map, length, take, ℤ, pos, negsuc, Some, None, Ok, Err, Option, Result, sym, refl, ap, ◌∙◌, ap₂, arith}
+use Rattle.std.proofs.lemmas.List.{take_all}
 use Rattle.std.proofs.lemmas.Int.{ints}
 use Rattle.std.proofs.lemmas.Bool.Decides.{nat_tests}
 use Rattle.std.specs.List.{flat_map}
@@ -10,20 +10,17 @@ use Rattle.samples.specs.declared.converter.ConverterSample.{ConverterSample}
 use Rattle.samples.specs.Equal.{same_sample}
 use Rattle.samples.specs.Widths.{clip_same}
 use Rattle.source.specs.declared.fault.Ending.TheVariants.{Finished}
-use Rattle.source.specs.declared.fault.FaultKind.{FaultKind}
 use Rattle.source.specs.declared.fault.FaultKind.TheVariants.{LowBits}
 use Rattle.source.specs.Streams.{Stream, tabulate}
-use Rattle.wave.specs.declared.chunks.Found.{Found}
 use Rattle.wave.specs.declared.chunks.Step.{Step}
 use Rattle.wave.specs.declared.chunks.Step.TheVariants as steps
-use Rattle.wave.specs.declared.format.Format.{Format}
 use Rattle.wave.specs.declared.refusal.OpeningRefusal.{OpeningRefusal}
 use Rattle.wave.specs.declared.refusal.OpeningRefusal.TheVariants.{TooShort}
-use Rattle.wave.specs.Bytes.{u16_at, u32_at, le16, le32}
+use Rattle.wave.specs.Bytes.{u32_at}
 use Rattle.wave.specs.Chunks.{Test, tested, head, format_tests, data_tests, chunk, chunk_end, chunk_of, kind_at, chunks, from_step, find_data}
-use Rattle.recordings.specs.Items.{signal_item, part_of, item_at, before_fault, held_from, low_bits_clear}
-use Rattle.recordings.specs.Opening.{opening, opened, content, signal_format, HandsOut}
-use Rattle.recorder.specs.Writing.{header, word, coded, size_of, recorded, good_rate}
+use Rattle.recordings.specs.Items.{signal_item, part_of, item_at, before_fault, held_from}
+use Rattle.recordings.specs.Opening.{opened, signal_format, HandsOut}
+use Rattle.recorder.specs.Writing.{word, coded, size_of, recorded, good_rate}
 use Rattle.recordings.proofs.Reading.{peeled}
 
 -- a part comes back from its word

@@ -1,12 +1,12 @@
 -- What bytes hold after a write, and what they held before it.
-use Rattle.std.proofs.Common.{◌≡◌, ℕ, zero, suc, ◌+◌, ◌-◌, ◌*◌, ◌<◌, ◌≤◌, Bool, true, cond, ◌&&◌, List, [], ◌∷◌, ◌++◌, length, take, drop, sym, refl, ap, ◌∙◌, ap₂, append_assoc, arith}
+use Rattle.std.proofs.Common.{◌≡◌, ℕ, ◌+◌, ◌-◌, ◌*◌, ◌≤◌, true, List, ◌++◌, length, take, drop, sym, refl, ap, ◌∙◌, ap₂, append_assoc, arith}
 use Rattle.std.proofs.lemmas.List.{length-append, length-take-le, length-drop, length_push, take_at, drop_at, drop-drop, take-append-drop, flat_map_more}
 use Rattle.std.proofs.lemmas.Bool.Decides.{nat_tests}
 use Rattle.std.specs.List.{flat_map}
 use Rattle.samples.specs.declared.converter.ConverterSample.{ConverterSample}
-use Rattle.wave.specs.Bytes.{le32, overwrite}
+use Rattle.wave.specs.Bytes.{overwrite}
 use Rattle.recordings.specs.Opening.{HandsOut, signal_opening}
-use Rattle.recorder.specs.Writing.{header, coded, size_of, recorded, good_rate, fits, sized, Holds, Adds, Finishes}
+use Rattle.recorder.specs.Writing.{header, coded, size_of, recorded, fits, sized, Adds, Finishes}
 use Rattle.recorder.proofs.Back.{hands_out, coded_length}
 
 -- up to its end, a write is what was before it and what was written

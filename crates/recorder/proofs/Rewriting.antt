@@ -1,19 +1,18 @@
 -- A recording of the shape that we write keeps every byte when it is rewritten.
-use Rattle.std.proofs.Common.{◌≡◌, ℕ, ◌+◌, ◌-◌, ◌*◌, ◌/◌, ◌≤◌, min, Bool, true, false, cond, ◌&&◌, List, [], ◌∷◌, ◌++◌, length, take, drop, Ok, Err, Result, sym, refl, ap, ◌∙◌, subst, ap₂, arith}
+use Rattle.std.proofs.Common.{◌≡◌, ℕ, ◌+◌, ◌*◌, Bool, true, cond, ◌&&◌, List, length, take, Ok, Err, Result, sym, ap, ◌∙◌, subst, ap₂, arith}
 use Rattle.std.proofs.lemmas.List.{take_all}
 use Rattle.std.proofs.lemmas.Bool.Decides.{nat_tests}
 use Rattle.samples.specs.declared.converter.ConverterSample.{ConverterSample}
 use Rattle.source.specs.declared.fault.Ending.TheVariants.{Finished}
 use Rattle.source.specs.Streams.{Stream}
 use Rattle.wave.specs.declared.refusal.OpeningRefusal.{OpeningRefusal}
-use Rattle.recorder.specs.declared.refusal.RewritingRefusal.{RewritingRefusal}
 use Rattle.recorder.specs.declared.refusal.WritingRefusal.{WritingRefusal}
 use Rattle.recorder.specs.declared.refusal.WritingRefusal.TheVariants.{Buffer, Rate}
 use Rattle.recorder.specs.declared.session.Part.{Part}
 use Rattle.wave.specs.Bytes.{overwrite}
 use Rattle.recordings.specs.Opening.{Opened, signal_opening}
-use Rattle.recorder.specs.Sessions.{room, taken, from, met, part_of, record_answer, after_record, left_after_record, as_writing, rewrite_answer, after_rewrite, GoesOn, Keeps}
-use Rattle.recorder.specs.Writing.{size_of, recorded, good_rate, good_buffer}
+use Rattle.recorder.specs.Sessions.{room, taken, part_of, record_answer, after_record, left_after_record, as_writing, rewrite_answer, after_rewrite, GoesOn, Keeps}
+use Rattle.recorder.specs.Writing.{size_of, recorded, good_buffer}
 use Rattle.recorder.proofs.Back.{recorded_length, hands_out}
 use Rattle.recorder.proofs.Overwriting.{take-overwrite}
 

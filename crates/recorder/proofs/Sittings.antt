@@ -1,6 +1,6 @@
 -- A whole session: start, put what the source has left, finish.
-use Rattle.std.proofs.Common.{◌≡◌, ℕ, ◌+◌, ◌-◌, ◌*◌, ◌/◌, ◌<◌, ◌≤◌, min, Bool, true, false, cond, ◌&&◌, List, [], ◌∷◌, ◌++◌, length, take, drop, Ok, Err, Option, Result, sym, refl, ap, ◌∙◌, subst, ap₂, arith}
-use Rattle.std.proofs.lemmas.List.{length-append, length-take-le, length-drop}
+use Rattle.std.proofs.Common.{◌≡◌, ℕ, ◌+◌, ◌-◌, ◌*◌, ◌≤◌, Bool, true, false, cond, ◌&&◌, List, ◌++◌, length, take, drop, Ok, Err, Option, Result, sym, refl, ap, ◌∙◌, subst, ap₂, arith}
+use Rattle.std.proofs.lemmas.List.{length-take-le}
 use Rattle.std.proofs.lemmas.Bool.Decides.{nat_tests}
 use Rattle.std.specs.List.{flat_map}
 use Rattle.samples.specs.declared.converter.ConverterSample.{ConverterSample}
@@ -8,10 +8,9 @@ use Rattle.source.specs.declared.fault.Ending.{Ending}
 use Rattle.source.specs.Streams.{Stream}
 use Rattle.recorder.specs.declared.refusal.WritingRefusal.{WritingRefusal}
 use Rattle.recorder.specs.declared.refusal.WritingRefusal.TheVariants.{Buffer, Rate, Full}
-use Rattle.recorder.specs.declared.session.Part.{Part}
 use Rattle.recorder.specs.declared.started.StartedRecording.{StartedRecording}
 use Rattle.wave.specs.Bytes.{overwrite}
-use Rattle.recordings.specs.Opening.{HandsOut, signal_opening}
+use Rattle.recordings.specs.Opening.{signal_opening}
 use Rattle.recorder.specs.Sessions.{room, taken, from, met, part_of, record_answer, after_record, left_after_record, ComesBack}
 use Rattle.recorder.specs.Writing.{header, coded, size_of, recorded, good_rate, good_buffer, fits, sized, start_answer, after_start, finish_answer, after_finish}
 use Rattle.recorder.proofs.Back.{coded_length, hands_out}

@@ -1,11 +1,11 @@
 -- Reading one item: what is left loses its first.
-use Rattle.std.proofs.Common.{◌≡◌, ℕ, zero, suc, ◌+◌, ◌-◌, ◌*◌, ◌<◌, ◌≤◌, min, ◌⊎◌, List, [], ◌∷◌, length, take, drop, Some, None, Ok, Err, Option, Result, sym, refl, ap, ◌∙◌, ap₂, inl, inr, add-mul, one-mul, zero-mul, arith}
+use Rattle.std.proofs.Common.{◌≡◌, ℕ, zero, suc, ◌+◌, ◌*◌, min, List, ◌∷◌, length, take, drop, Some, None, Ok, Err, Option, Result, sym, refl, ap, ◌∙◌, ap₂, inl, inr, add-mul, one-mul, zero-mul, arith}
 use Rattle.std.proofs.lemmas.Bool.{cases_lt}
 use Rattle.std.proofs.lemmas.List.{drop-drop, take_all, drop_all}
 use Rattle.source.specs.declared.fault.Fault.{Fault}
 use Rattle.source.specs.declared.fault.FaultKind.{FaultKind}
-use Rattle.source.specs.Streams.{Stream, tabulate, answer, rest}
-use Rattle.recordings.specs.Items.{item_at, sound, ending_of, before_fault, held_from}
+use Rattle.source.specs.Streams.{tabulate, answer, rest}
+use Rattle.recordings.specs.Items.{item_at, before_fault, held_from}
 
 -- the items from the second on are the items of what is behind the first
 shifted : {T : Type 0} (meaning : List ℕ → Option T) (a : ℕ) (d : List ℕ) (j n : ℕ) → tabulate (item_at meaning a d) (j + 1) n ≡ tabulate (item_at meaning a (drop a d)) j n
@@ -58,3 +58,7 @@ from_front meaning a b n d f r e k h i =
 -- and what is behind them is left
 pub from_back : (a b n : ℕ) (d f : List ℕ) → b ≡ a → n ≡ min b (length d) → f ≡ drop n d → f ≡ drop a d
 from_back a b n d f e k h = h ∙ ap (λ (j : ℕ). drop j d) (k ∙ ap (λ (j : ℕ). min j (length d)) e) ∙ dropped_min a d
+
+-- a fault of the kind that was named is the one that is answered
+pub told : {T : Type 0} (named kind : FaultKind) (input k : ℕ) (r : Result (Option T) Fault) → named ≡ kind → r ≡ Err (record { kind = kind; input = input; item = k }) → Err (record { kind = named; input = input; item = k }) ≡ r
+told named kind input k r e h = ap (λ (j : FaultKind). Err (record { kind = j; input = input; item = k })) e ∙ sym h

@@ -1,5 +1,5 @@
 -- A chunk leads onward, and stays within the bytes.
-use Rattle.std.proofs.Common.{◌≡◌, ℕ, zero, suc, ◌+◌, ◌*◌, ◌%◌, ◌<◌, ◌≤◌, Bool, true, false, cond, ◌&&◌, T, eqb, leb, ◌⊎◌, List, [], ◌∷◌, length, Some, None, Ok, Err, Option, Result, sym, refl, ap, ◌∙◌, subst, inl, inr, arith, leb→le}
+use Rattle.std.proofs.Common.{◌≡◌, ℕ, zero, suc, ◌+◌, ◌*◌, ◌%◌, ◌≤◌, Bool, true, false, cond, T, eqb, leb, List, [], ◌∷◌, length, Some, None, Ok, Err, Option, Result, sym, refl, ap, ◌∙◌, subst, arith, leb→le}
 use Rattle.std.proofs.lemmas.Bool.Decides.{nat_tests}
 use Rattle.wave.specs.declared.format.Format.{Format}
 use Rattle.wave.specs.declared.chunks.ChunkKind.{ChunkKind}
@@ -8,10 +8,10 @@ use Rattle.wave.specs.declared.chunks.Found.{Found}
 use Rattle.wave.specs.declared.chunks.Step.{Step}
 use Rattle.wave.specs.declared.chunks.Step.TheVariants as steps
 use Rattle.wave.specs.declared.refusal.OpeningRefusal.{OpeningRefusal}
-use Rattle.wave.specs.declared.refusal.OpeningRefusal.TheVariants.{TooShort, WrongHead, WrongField, DataBeforeFormat}
+use Rattle.wave.specs.declared.refusal.OpeningRefusal.TheVariants.{TooShort, WrongField}
 use Rattle.wave.specs.declared.refusal.Field.TheVariants.{FormatSize, DataSize}
-use Rattle.wave.specs.Bytes.{u16_at, u32_at}
-use Rattle.wave.specs.Chunks.{Test, tested, head, format_tests, field_tests, data_tests, complete, chunk_end, size_at, kind_at, chunk_of, chunk, chunks, from_step}
+use Rattle.wave.specs.Bytes.{u32_at}
+use Rattle.wave.specs.Chunks.{Test, tested, field_tests, complete, chunk_end, size_at, kind_at, chunk_of, chunk, chunks, from_step}
 
 -- where a step leads to
 abbrev pub Inside : List ℕ → ℕ → Step → Type 0

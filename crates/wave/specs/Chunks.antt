@@ -1,5 +1,5 @@
 -- Opening, up to the data: the tests in byte order, and what the first that fails answers.
-use Rattle.std.specs.Prelude.{ℕ, zero, suc, ◌+◌, ◌*◌, ◌%◌, Bool, true, false, cond, ◌&&◌, List, [], ◌∷◌, length, Some, None, Ok, Err, codes, Option, Result, ◌==◌, nat_le}
+use Rattle.std.specs.Prelude.{ℕ, zero, suc, ◌+◌, ◌*◌, ◌%◌, Bool, cond, ◌&&◌, List, [], ◌∷◌, length, Some, None, Ok, Err, codes, Option, Result, ◌==◌, nat_le}
 use Rattle.wave.specs.declared.format.Format.{Format}
 use Rattle.wave.specs.declared.chunks.ChunkKind.{ChunkKind}
 use Rattle.wave.specs.declared.chunks.ChunkKind.TheVariants as kinds
@@ -28,9 +28,9 @@ tested (t ∷ ts) a = cond t.0 (tested ts a) (Err t.1)
 abbrev pub head : List ℕ → List Test
 head b =
     (nat_le 12 (length b), TooShort 0)
-    ∷ ((u32_at b 0 == mark (codes "RIFF")), WrongHead 0)
-    ∷ ((u32_at b 4 + 8 == length b), WrongHead 4)
-    ∷ ((u32_at b 8 == mark (codes "WAVE")), WrongHead 8)
+    ∷ (u32_at b 0 == mark (codes "RIFF"), WrongHead 0)
+    ∷ (u32_at b 4 + 8 == length b, WrongHead 4)
+    ∷ (u32_at b 8 == mark (codes "WAVE"), WrongHead 8)
     ∷ []
 
 -- which chunk begins at s
@@ -55,22 +55,22 @@ complete b s = (nat_le (chunk_end b s) (length b), TooShort s)
 -- the fields of the format chunk at s
 abbrev pub field_tests : Format → List ℕ → ℕ → List Test
 field_tests f b s =
-    ((u16_at b (s + 8) == 1), WrongField Tag (s + 8))
-    ∷ ((u16_at b (s + 10) == f.channels), WrongField Channels (s + 10))
+    (u16_at b (s + 8) == 1, WrongField Tag (s + 8))
+    ∷ (u16_at b (s + 10) == f.channels, WrongField Channels (s + 10))
     ∷ (nat_le 1 (u32_at b (s + 12)) && nat_le (u32_at b (s + 12)) 100000000, WrongField Rate (s + 12))
-    ∷ ((u32_at b (s + 16) == u32_at b (s + 12) * f.align), WrongField ByteRate (s + 16))
-    ∷ ((u16_at b (s + 20) == f.align), WrongField Align (s + 20))
-    ∷ ((u16_at b (s + 22) == f.bits), WrongField Bits (s + 22))
+    ∷ (u32_at b (s + 16) == u32_at b (s + 12) * f.align, WrongField ByteRate (s + 16))
+    ∷ (u16_at b (s + 20) == f.align, WrongField Align (s + 20))
+    ∷ (u16_at b (s + 22) == f.bits, WrongField Bits (s + 22))
     ∷ []
 
 -- the format chunk at s
 abbrev pub format_tests : Format → List ℕ → ℕ → List Test
-format_tests f b s = ((size_at b s == 16), WrongField FormatSize (s + 4)) ∷ complete b s ∷ field_tests f b s
+format_tests f b s = (size_at b s == 16, WrongField FormatSize (s + 4)) ∷ complete b s ∷ field_tests f b s
 
 -- the data chunk at s
 abbrev pub data_tests : Format → List ℕ → ℕ → List Test
 data_tests f b s =
-    ((size_at b s % f.align == 0), WrongField DataSize (s + 4))
+    (size_at b s % f.align == 0, WrongField DataSize (s + 4))
     ∷ complete b s
     ∷ []
 

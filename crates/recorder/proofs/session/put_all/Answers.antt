@@ -1,4 +1,4 @@
-use Rattle.std.proofs.Common.{◌≡◌, length, Some, None, Ok, Err, sym, refl, ap, ◌∙◌, arith}
+use Rattle.std.proofs.Common.{◌≡◌, length, Some, None, Ok, Err, sym, ap, ◌∙◌, arith}
 use Rattle.source.specs.Streams.{answer}
 use Rattle.recorder.proofs.Filling.{begun, goes, finished, faulted}
 use Rattle.recorder.proofs.session.put_all.Goals as goal

@@ -1,4 +1,4 @@
-use Rattle.std.proofs.Common.{◌≡◌, ℕ, ◌+◌, ◌-◌, ◌*◌, ◌/◌, ◌≤◌, length, Ok, Err, sym, refl, ap, ◌∙◌, ap₂, arith}
+use Rattle.std.proofs.Common.{◌≡◌, ℕ, ◌-◌, ◌/◌, length, Ok, sym, ap, ◌∙◌, ap₂, arith}
 use Rattle.recorder.specs.Sessions.{room, taken}
 use Rattle.recorder.specs.Writing.{size_of}
 use Rattle.recorder.proofs.Sittings.{session, one_length, not_refused}

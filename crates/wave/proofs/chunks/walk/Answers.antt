@@ -1,4 +1,4 @@
-use Rattle.std.proofs.Common.{◌≡◌, ◌*◌, length, Ok, Err, sym, refl, ◌∙◌, arith}
+use Rattle.std.proofs.Common.{◌≡◌, length, Ok, sym, refl, ◌∙◌, arith}
 use Rattle.wave.specs.declared.chunks.Step.TheVariants as steps
 use Rattle.wave.specs.Chunks.{chunk}
 use Rattle.wave.proofs.Walks.{inside, goes_on}

@@ -1,4 +1,4 @@
-use Rattle.std.proofs.Common.{◌≡◌, ℕ, ◌+◌, ◌-◌, ◌*◌, ◌≤◌, Bool, true, cond, List, length, Ok, Err, sym, refl, ap, ◌∙◌, subst, ap₂, arith}
+use Rattle.std.proofs.Common.{◌≡◌, ℕ, ◌-◌, ◌*◌, Bool, true, cond, List, length, Ok, Err, sym, ap, ◌∙◌, subst, arith}
 use Rattle.recorder.specs.declared.refusal.WritingRefusal.TheVariants.{Full}
 use Rattle.wave.specs.Bytes.{le32, overwrite}
 use Rattle.recorder.specs.Writing.{size_of, fits, sized, Finishes}

@@ -1,7 +1,7 @@
-use Rattle.std.proofs.Common.{◌≡◌, ℕ, ◌<◌, ◌≤◌, Bool, true, cond, ◌&&◌, List, length, take, sym, refl, ap, ◌∙◌, arith}
+use Rattle.std.proofs.Common.{◌≡◌, ℕ, ◌≤◌, Bool, true, cond, ◌&&◌, List, length, take, sym, ap, ◌∙◌, arith}
 use Rattle.std.proofs.lemmas.Bool.Decides.{nat_tests}
 use Rattle.wave.specs.Bytes.{overwrite}
-use Rattle.recorder.specs.Writing.{header, good_rate, good_buffer, start_answer, after_start}
+use Rattle.recorder.specs.Writing.{header, good_rate, good_buffer}
 use Rattle.recorder.proofs.started.StartedRecording.start.Goals as goal
 
 rate_passes : (rate : ℕ) → 1 ≤ rate → rate ≤ 100000000 → good_rate rate ≡ true

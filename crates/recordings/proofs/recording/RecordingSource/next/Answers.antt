@@ -1,8 +1,7 @@
-use Rattle.std.proofs.Common.{◌≡◌, ℕ, suc, ◌+◌, ◌-◌, List, Err, sym, refl, ap, ◌∙◌, arith}
-use Rattle.source.specs.declared.fault.FaultKind.{FaultKind}
+use Rattle.std.proofs.Common.{◌≡◌, suc, ◌+◌, ◌-◌, sym, refl, ap, ◌∙◌, arith}
 use Rattle.wave.specs.declared.format.Format.{Format}
 use Rattle.recordings.specs.Items.{held_from}
-use Rattle.recordings.proofs.Reading.{gives, fails, from_front, from_back}
+use Rattle.recordings.proofs.Reading.{gives, fails, from_front, from_back, told}
 use Rattle.recordings.proofs.recording.RecordingSource.next.Goals as goal
 
 pub returns-in-Some : goal.returns-in-Some
@@ -31,7 +30,7 @@ returns-in-None g c =
     let h : s.count - s.place ≡ suc (s.count - (s.place + 1)) = omega arith in
     let p = fails meaning a g.L.Layout.spoilt s.input s.place s.rest.now (s.count - s.place) (s.count - (s.place + 1)) h (e ∙ c.in-None.is) in
     record {
-      answers = ap (λ (k : FaultKind). Err (record { kind = k; input = s.input; item = s.place })) c.fault.ensures ∙ sym p.0;
+      answers = told c.fault.result g.L.Layout.spoilt s.input s.place _ c.fault.ensures p.0;
       moves = sym p.1;
       same = refl;
     }
