@@ -32,7 +32,7 @@ fn summarize(rt: &HostRuntime, played: Played, fault: Option<PlayerFault>) -> io
     println!(rt; "played {samples} samples, {ends}")
 }
 
-// Writes the samples as the next recording.
+// Writes the samples as the next recording; no samples are written only where nothing was yet.
 fn write_block(
     rt: &HostRuntime,
     to: &str,
@@ -41,6 +41,9 @@ fn write_block(
     bytes: &mut [u8],
     played: &mut Played,
 ) -> Result<(), OutputFailure> {
+    if samples.is_empty() && played.files > 0 {
+        return Ok(());
+    }
     let length = parts::record_block(samples, rate, bytes)?;
     played.files = played.files.saturating_add(1);
     played.samples = played.samples.saturating_add(samples.len() as u64);
@@ -49,7 +52,44 @@ fn write_block(
     parts::tell_progress(rt, played.samples, played.files)
 }
 
-// Fills a block for each recording, until the ending comes. A chain without samples makes an empty recording.
+// Fills the block; answers how many samples came, and the fault if it is one that no sample came for.
+fn fill_block<S: Source<Item = ConverterSample> + Drop>(
+    player: &mut Player<S>,
+    block: &mut [ConverterSample],
+) -> (usize, Option<PlayerFault>) {
+    match player.fill(block) {
+        Ok(count) => (count, None),
+        Err(fault) => (0, Some(fault)),
+    }
+}
+
+// Fills the block for each recording, until the ending comes. A chain without samples makes an empty recording.
+fn write_blocks<S: Source<Item = ConverterSample> + Drop>(
+    rt: &HostRuntime,
+    player: &mut Player<S>,
+    rate: u32,
+    to: &str,
+    block: &mut [ConverterSample],
+    bytes: &mut [u8],
+) -> Result<(Played, Option<PlayerFault>), OutputFailure> {
+    let mut played = Played {
+        samples: 0,
+        files: 0,
+        levels: Levels::none(),
+    };
+    for _ in 0..u64::MAX {
+        let (count, fault) = fill_block(player, block);
+        let Some(samples) = block.get(0..count) else {
+            break;
+        };
+        write_block(rt, to, rate, samples, bytes, &mut played)?;
+        if count == 0 {
+            return Ok((played, fault));
+        }
+    }
+    Ok((played, None))
+}
+
 fn write_player<S: Source<Item = ConverterSample> + Drop>(
     rt: &HostRuntime,
     mut player: Player<S>,
@@ -58,28 +98,14 @@ fn write_player<S: Source<Item = ConverterSample> + Drop>(
 ) -> Result<(Played, Option<PlayerFault>), OutputFailure> {
     let mut block = vec![in rt.alloc(); ConverterSample::new(0, 0); parts::MAX_SAMPLES]?;
     let mut bytes = vec![in rt.alloc(); 0; parts::MAX_BYTES]?;
-    let mut played = Played {
-        samples: 0,
-        files: 0,
-        levels: Levels::none(),
-    };
-    for _ in 0..u64::MAX {
-        let filled = player.fill(block.as_mut_slice());
-        let count = match filled {
-            Ok(count) => count,
-            Err(_) => 0,
-        };
-        if count > 0 || played.files == 0 {
-            let samples = block.as_slice().get(0..count).unwrap_or(&[]);
-            write_block(rt, to, rate, samples, bytes.as_mut_slice(), &mut played)?;
-        }
-        match filled {
-            Ok(0) => break,
-            Ok(_) => {}
-            Err(fault) => return Ok((played, Some(fault))),
-        }
-    }
-    Ok((played, None))
+    write_blocks(
+        rt,
+        &mut player,
+        rate,
+        to,
+        block.as_mut_slice(),
+        bytes.as_mut_slice(),
+    )
 }
 
 fn tell<S: Source<Item = ConverterSample> + Drop>(

@@ -17,9 +17,9 @@ ending_met-ending-requires g c κs =
     let w = each parts (g.S.Source.whole c.args.source) in
     let n = length c.args.out.now in
     let k : length c.fill.new.buffer ≡ n = c.fill.auto.buffer in
-    let stands = subst (λ (v : Stream _). Stands s v 0) c.new-apart.ensures.whole c.new-player.ensures.stands in
+    let stands = subst (λ (v : Stream _). Stands s v 0) c.new-apart.ensures.makes c.new-player.ensures.stands in
     let l = listened n w s s' c.unwrap_or-items.result stands c.fill.ensures.moves (c.unwrap_or-items.ensures ∙ ap (λ r. result_unwrap_or r 0) c.fill.ensures.answers) in
-    λ h. l.spent (subst (λ (m : ℕ). c.unwrap_or-items.result < m) k h)
+    l.spent (subst (λ (m : ℕ). c.unwrap_or-items.result < m) k κs)
 
 pub returns : goal.returns
 returns g c =
@@ -31,7 +31,7 @@ returns g c =
     let w = each parts below in
     let n = length c.args.out.now in
     let k : length c.fill.new.buffer ≡ n = c.fill.auto.buffer in
-    let stands = subst (λ (v : Stream _). Stands s v 0) c.new-apart.ensures.whole c.new-player.ensures.stands in
+    let stands = subst (λ (v : Stream _). Stands s v 0) c.new-apart.ensures.makes c.new-player.ensures.stands in
     let l = listened n w s s' c.unwrap_or-items.result stands c.fill.ensures.moves (c.unwrap_or-items.ensures ∙ ap (λ r. result_unwrap_or r 0) c.fill.ensures.answers) in
     let m = mapped parts n below in
     record {
