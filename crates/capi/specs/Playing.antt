@@ -1,5 +1,5 @@
 -- The standard chain, played over two recordings.
-use Rattle.std.specs.Prelude.{◌≡◌, ℕ, ◌≤◌, cond, List, [], ◌++◌, length, drop, Ok, Err, Result}
+use Rattle.std.specs.Prelude.{◌≡◌, ℕ, List, [], length, Ok, Err, Result}
 use Rattle.samples.specs.declared.converter.ConverterSample.{ConverterSample}
 use Rattle.samples.specs.declared.gain_index.GainIndex.{GainIndex}
 use Rattle.source.specs.Streams.{Stream}

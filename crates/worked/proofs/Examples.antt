@@ -5,9 +5,8 @@ use Rattle.samples.specs.Kinds.{air}
 use Rattle.samples.specs.Phases.{index_16, index_48}
 use Rattle.samples.specs.Phasors.{phasor_of, cosine, rounded, halvings, halved, step_cosine}
 use Rattle.samples.specs.Roots.{root, root_from, grown}
-use Rattle.samples.specs.declared.kinds.WorkingSample.{WorkingSample}
 use Rattle.source.specs.Streams.{answer, rest}
-use Rattle.stages.specs.Noise.{level, steps, noise}
+use Rattle.stages.specs.Noise.{noise}
 use Rattle.stages.specs.Wholes.{paired}
 use Rattle.impairments.specs.Multipath.{echoes, heard, total, silence}
 use Rattle.turns.specs.Amplifier.{amplified, magnitude, interpolated}

@@ -2,14 +2,12 @@
 use Rattle.std.specs.Prelude.{◌≡◌, ℕ, zero, suc, ◌+◌, ◌^◌, List, [], ◌∷◌, replicate, ℤ, pos, negsuc, neg_ℤ, None, Ok}
 use Rattle.std.proofs.Common.{lit≤}
 use Rattle.std.specs.Int.Signed.{le_z_yes}
-use Rattle.samples.specs.Kinds.{converter, working, air, gain_index}
-use Rattle.samples.specs.declared.converter.ConverterSample.{ConverterSample}
+use Rattle.samples.specs.Kinds.{converter, air, gain_index}
 use Rattle.samples.specs.declared.gain_index.GainIndex.{GainIndex}
 use Rattle.samples.specs.declared.kinds.AirSample.{AirSample}
 use Rattle.samples.specs.declared.kinds.WorkingSample.{WorkingSample}
 use Rattle.source.specs.Streams.{Stream, answer, rest}
 use Rattle.source.specs.declared.fault.Ending.TheVariants.{Finished, Faulted}
-use Rattle.source.specs.declared.fault.Fault.{Fault}
 use Rattle.source.specs.declared.fault.FaultKind.TheVariants.{LowBits}
 use Rattle.stages.specs.Clock.{outputs, clock_step}
 use Rattle.stages.specs.Noise.{noise}

@@ -1,4 +1,4 @@
-use Rattle.std.proofs.Common.{ℕ, ap, ◌∙◌, ap₂}
+use Rattle.std.proofs.Common.{ℕ, ◌∙◌, ap₂}
 use Rattle.impairments.specs.Levels.{scaled}
 use Rattle.samples.specs.declared.converter.ConverterSample.{ConverterSample}
 use Rattle.worked.proofs.Examples.{examples}

@@ -1,4 +1,4 @@
-use Rattle.std.proofs.Common.{◌≡◌, ℕ, sym, ap, ◌∙◌, ap₂}
+use Rattle.std.proofs.Common.{ap, ◌∙◌}
 use Rattle.capi.specs.Hearing.{most}
 use Rattle.player.specs.Standing.{standing}
 use Rattle.std.specs.Result.{result_unwrap_or}

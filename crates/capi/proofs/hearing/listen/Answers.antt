@@ -1,11 +1,11 @@
-use Rattle.std.proofs.Common.{◌≡◌, ℕ, ◌<◌, cond, ltb, length, Some, None, sym, ap, ◌∙◌, subst, arith}
+use Rattle.std.proofs.Common.{◌≡◌, ℕ, ◌<◌, cond, ltb, length, Some, None, ap, ◌∙◌, subst}
 use Rattle.std.specs.Result.{result_unwrap_or}
 use Rattle.source.specs.Streams.{Stream}
 use Rattle.stages.specs.Meanings.{each_whole, each_left}
 use Rattle.stages.specs.Wholes.{each}
 use Rattle.player.specs.Standing.{standing, Stands}
 use Rattle.capi.specs.Playing.{parts}
-use Rattle.capi.proofs.Listening.{Listened, listened, buffer_told, mapped}
+use Rattle.capi.proofs.Listening.{listened, buffer_told, mapped}
 use Rattle.capi.proofs.hearing.listen.Goals as goal
 
 pub ending_met-ending-requires : goal.ending_met-ending-requires

@@ -1,4 +1,3 @@
-use Rattle.std.proofs.Common.{subst}
 use Rattle.capi.proofs.Texts.{text_tells}
 use Rattle.capi.proofs.replaying.replay.Goals as goal
 

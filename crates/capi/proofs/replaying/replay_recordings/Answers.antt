@@ -1,4 +1,4 @@
-use Rattle.std.proofs.Common.{◌≡◌, ℕ, Ok, sym, ap, ◌∙◌}
+use Rattle.std.proofs.Common.{ℕ, Ok, sym, ap, ◌∙◌}
 use Rattle.recordings.specs.Opening.{signal_opening}
 use Rattle.capi.specs.Hearing.{gain_opening}
 use Rattle.capi.specs.Replaying.{rate_of}

@@ -1,5 +1,4 @@
 use Rattle.std.proofs.Common.{ap, ◌∙◌}
-use Rattle.samples.specs.declared.kinds.WorkingSample.{WorkingSample}
 use Rattle.chain.specs.Formulas.{transmitting, working_balanced, amplified_unless}
 use Rattle.chain.proofs.transmitter.TransmitterMapping.apply.Goals as goal
 
