@@ -1,3 +1,4 @@
+pub mod LetGo
 pub mod Refusals
 pub mod Sessions
 pub mod Writing

@@ -1,5 +1,6 @@
 // Writing a signal recording into a buffer: start, put, finish, abandon.
 ghost use Rattle.std.specs.Prelude.{◌≡◌, [], length, OnOk};
+ghost use Rattle.recorder.specs.LetGo.{TooLong};
 ghost use Rattle.recorder.specs.Writing.{start_answer, after_start, put_answer, put_count, after_put, finish_answer, after_finish, Holds, Adds, Finishes};
 
 use crate::encoding::{coded, header, le32, place};
@@ -13,7 +14,7 @@ const MAX_BYTES: usize = 65536;
 const MAX_RATE: u32 = 100_000_000;
 
 // A started recording: how many samples were put in. Its bytes are lent at each call. It must be finished or abandoned:
-// where a program lets it go, the check asks for a proof of what is false.
+// where a program lets it go, the check asks for a proof that it is longer than any recording may be, which none is.
 #[derive(Debug)]
 pub struct StartedRecording {
     samples: u32,
@@ -21,7 +22,7 @@ pub struct StartedRecording {
 
 impl Drop for StartedRecording {
     fn drop(self)
-        requires { ⊥ }
+        requires { TooLong self }
     {
         let StartedRecording { samples: _ } = self;
     }
