@@ -8,7 +8,7 @@ use Rattle.capi.specs.declared.refusal.Input.TheVariants.{Signal, Gain, Settings
 use Rattle.capi.specs.declared.refusal.Refusal.{Refusal}
 use Rattle.capi.specs.declared.refusal.Refusal.TheVariants.{Opening, Setting, UnknownKind, WrongLine, Memory, Room}
 use Rattle.capi.specs.declared.report.Report.{Report}
-use Rattle.capi.specs.declared.transcript.Transcript.{Transcript}
+use Rattle.capi.specs.declared.written.Transcript.{Transcript}
 use Rattle.capi.specs.Hearing.{gain_opening}
 use Rattle.capi.specs.Reports.{items_report, input_number, status, told}
 

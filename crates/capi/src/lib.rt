@@ -13,4 +13,4 @@ pub mod refusal;
 pub mod replaying;
 pub mod report;
 mod settings;
-mod transcript;
+mod written;

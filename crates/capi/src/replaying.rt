@@ -6,7 +6,7 @@ ghost use Rattle.capi.specs.Replaying.{Tells, put_answer, after_put, replay_answ
 use crate::refusal::{Input, Refusal, conclude};
 use crate::report::{Heard, Report};
 use crate::settings::{refusal_of, settings_of};
-use crate::transcript::Transcript;
+use crate::written::Transcript;
 use lines::reader::{Numbered, read_lines};
 use link::settings::Settings;
 use player::calls::Call;

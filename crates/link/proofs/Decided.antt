@@ -1,6 +1,6 @@
 -- What a check of two facts, or of a fact of every element, comes to.
 use Rattle.std.proofs.Common.{◌≡◌, ℕ, zero, suc, ◌+◌, List, [], ◌∷◌, Ok, Err, Result, refl, ap, ◌∙◌, suc-le-suc, zero-le, arith}
-use Rattle.std.specs.List.{AllByRecursion as All}
+use Rattle.std.specs.List.{AllByRecursion}
 use Rattle.link.specs.Decisions.{checked_both, also, each_checked}
 use Rattle.link.specs.Firsts.{First}
 
@@ -40,7 +40,7 @@ also_second (yes p) e f (Err g) fact bad = cc
 also_second (no n) e f q fact bad = absurd (n fact)
 
 module _ {X E : Type 0} {P : X → Type 0} (decide : (x : X) → Dec (P x)) (refusal : ℕ → E) where
-  pub all_accepted : (k : ℕ) (xs : List X) → All P xs → (h : All P xs) × (each_checked decide refusal k xs ≡ Ok h)
+  pub all_accepted : (k : ℕ) (xs : List X) → AllByRecursion P xs → (h : AllByRecursion P xs) × (each_checked decide refusal k xs ≡ Ok h)
   all_accepted k [] h = (tt, refl)
   all_accepted k (x ∷ xs) h = also_ok (decide x) (refusal k) (each_checked decide refusal (k + 1) xs) h.0 (all_accepted (k + 1) xs h.1)
 

@@ -1,7 +1,7 @@
 -- A list of records with the numbers that were given is what the check accepts.
 use Rattle.std.proofs.Common.{◌≡◌, ℕ, ◌-◌, List, [], ◌∷◌, ◌++◌, map, length, replicate, ℤ, Ok, Err, sym, refl, ap, ◌∙◌, zero-add, arith}
 use native.Mathlib.Decide.{dec_le, ℕ_discrete}
-use Rattle.std.specs.List.{AllByRecursion as All, AllWithin}
+use Rattle.std.specs.List.{AllByRecursion, AllWithin}
 use Rattle.std.proofs.ByRecursion.{all_from_every}
 use Rattle.std.proofs.lemmas.List.{map-append}
 use Rattle.turns.specs.declared.entry.Entry.{Entry}
@@ -36,11 +36,11 @@ same_lists (p ∷ ps) (q ∷ qs) e =
     let b = same_lists ps qs tail in
     cc
 
-numbers_of : (ps : List RawPath) (h : All Near ps) → map numbers (paths_of ps h) ≡ ps
+numbers_of : (ps : List RawPath) (h : AllByRecursion Near ps) → map numbers (paths_of ps h) ≡ ps
 numbers_of [] h = refl
 numbers_of (p ∷ ps) h = ap (λ qs. p ∷ qs) (numbers_of ps h.1)
 
-padded_numbers : (ps : List RawPath) (h : All Near ps) → map numbers (padded (paths_of ps h)) ≡ ps ++ replicate (10 - length ps) (numbers neutral_path)
+padded_numbers : (ps : List RawPath) (h : AllByRecursion Near ps) → map numbers (padded (paths_of ps h)) ≡ ps ++ replicate (10 - length ps) (numbers neutral_path)
 padded_numbers ps h =
     map-append numbers (paths_of ps h) (replicate (10 - length (paths_of ps h)) neutral_path)
     ∙ ap (λ qs. map numbers (paths_of ps h) ++ qs) (map-replicate numbers (10 - length (paths_of ps h)) neutral_path)
@@ -96,12 +96,12 @@ same_entries (e ∷ es) (f ∷ fs) a p =
     let tail = same_entries es fs xs ys in
     cc
 
-amplitudes_of : (amps : List ℕ) (phases : List ℤ) (h : All Amplitude amps) → length amps ≡ length phases → map (λ (x : Entry). x.amplitude) (entries_of amps phases h) ≡ amps
+amplitudes_of : (amps : List ℕ) (phases : List ℤ) (h : AllByRecursion Amplitude amps) → length amps ≡ length phases → map (λ (x : Entry). x.amplitude) (entries_of amps phases h) ≡ amps
 amplitudes_of [] phases h e = refl
 amplitudes_of (a ∷ amps) [] h e = absurd (omega arith)
 amplitudes_of (a ∷ amps) (p ∷ phases) h e = ap (λ as'. a ∷ as') (amplitudes_of amps phases h.1 (omega arith))
 
-phases_of : (amps : List ℕ) (phases : List ℤ) (h : All Amplitude amps) → length amps ≡ length phases → map (λ (x : Entry). x.phase) (entries_of amps phases h) ≡ phases
+phases_of : (amps : List ℕ) (phases : List ℤ) (h : AllByRecursion Amplitude amps) → length amps ≡ length phases → map (λ (x : Entry). x.phase) (entries_of amps phases h) ≡ phases
 phases_of [] [] h e = refl
 phases_of [] (p ∷ phases) h e = absurd (omega arith)
 phases_of (a ∷ amps) [] h e = absurd (omega arith)

@@ -2,7 +2,7 @@
 use Rattle.std.specs.Prelude.{ℕ, ◌+◌, ◌≤◌, Bool, true, false, T, List, [], ◌∷◌, ℤ, ◌≤ℤ◌, Ok, Err, Result, int_le}
 use Rattle.std.proofs.Math.Decide.{dec_le}
 use Rattle.std.specs.Int.Signed.{le_z_yes}
-use Rattle.std.specs.List.{AllByRecursion as All}
+use Rattle.std.specs.List.{AllByRecursion}
 
 -- both facts
 abbrev pub both : {P Q : Type 0} → Dec P → Dec Q → Dec (P × Q)
@@ -46,6 +46,6 @@ also (yes p) e (Err f) = Err f
 also (yes p) e (Ok q) = Ok (p, q)
 
 -- the fact of every element, or else the refusal of the first that has it not; the first element's place is k
-abbrev pub each_checked : {X E : Type 0} {P : X → Type 0} → ((x : X) → Dec (P x)) → (ℕ → E) → ℕ → (xs : List X) → Result (All P xs) E
+abbrev pub each_checked : {X E : Type 0} {P : X → Type 0} → ((x : X) → Dec (P x)) → (ℕ → E) → ℕ → (xs : List X) → Result (AllByRecursion P xs) E
 each_checked decide refusal k [] = Ok tt
 each_checked decide refusal k (x ∷ xs) = also (decide x) (refusal k) (each_checked decide refusal (k + 1) xs)

@@ -3,7 +3,7 @@ use Rattle.std.specs.Prelude.{◌≡◌, ℕ, suc, ◌-◌, ◌≤◌, List, [],
 use Rattle.std.proofs.Common.{ap, arith, length-append}
 use Rattle.std.proofs.Math.Decide.{dec_le, ℕ_discrete}
 use Rattle.std.proofs.lemmas.List.{length-replicate}
-use Rattle.std.specs.List.{AllByRecursion as All}
+use Rattle.std.specs.List.{AllByRecursion}
 use Rattle.turns.specs.declared.entry.Entry.{Entry}
 use Rattle.impairments.specs.declared.path.Path.{Path}
 use Rattle.turns.specs.declared.table.AmplifierTable.{AmplifierTable}
@@ -19,12 +19,12 @@ abbrev pub Near : RawPath → Type 0
 Near p = p.delay ≤ 63
 
 -- the paths of these numbers
-abbrev pub paths_of : (ps : List RawPath) → All Near ps → List Path
+abbrev pub paths_of : (ps : List RawPath) → AllByRecursion Near ps → List Path
 paths_of [] h = []
 paths_of (p ∷ ps) h = record { re = p.re; im = p.im; delay = p.delay; delay_within = h.0 } ∷ paths_of ps h.1
 
 -- as many as were given
-pub length-paths_of : (ps : List RawPath) (h : All Near ps) → length (paths_of ps h) ≡ length ps
+pub length-paths_of : (ps : List RawPath) (h : AllByRecursion Near ps) → length (paths_of ps h) ≡ length ps
 length-paths_of [] h = refl
 length-paths_of (p ∷ ps) h = ap suc (length-paths_of ps h.1)
 
@@ -36,7 +36,7 @@ padded paths = paths ++ replicate (10 - length paths) neutral_path
 pub length_padded : (ps : List Path) → length ps ≤ 10 → length (padded ps) ≡ 10
 length_padded ps h = simp (length-append, length-replicate) (omega arith)
 
-pub ten_places : (ps : List RawPath) (h : All Near ps) → length ps ≤ 10 → length (padded (paths_of ps h)) ≡ 10
+pub ten_places : (ps : List RawPath) (h : AllByRecursion Near ps) → length ps ≤ 10 → length (padded (paths_of ps h)) ≡ 10
 ten_places ps h n = length_padded (paths_of ps h) (omega (arith, length-paths_of ps h))
 
 -- 1 to 10 paths, else path 10 is refused; each delay at most 63, else the first path that has another is refused
@@ -60,18 +60,18 @@ abbrev pub Amplitude : ℕ → Type 0
 Amplitude a = a ≤ 32767
 
 -- entry by entry an amplitude and its phase
-abbrev pub entries_of : (amps : List ℕ) → List ℤ → All Amplitude amps → List Entry
+abbrev pub entries_of : (amps : List ℕ) → List ℤ → AllByRecursion Amplitude amps → List Entry
 entries_of [] phases h = []
 entries_of (a ∷ amps) [] h = []
 entries_of (a ∷ amps) (p ∷ phases) h = record { amplitude = a; phase = p; amplitude_within = h.0 } ∷ entries_of amps phases h.1
 
 -- the lengths that the types ask
-pub length-entries_of : (amps : List ℕ) (phases : List ℤ) (h : All Amplitude amps) → length amps ≡ length phases → length (entries_of amps phases h) ≡ length amps
+pub length-entries_of : (amps : List ℕ) (phases : List ℤ) (h : AllByRecursion Amplitude amps) → length amps ≡ length phases → length (entries_of amps phases h) ≡ length amps
 length-entries_of [] phases h e = refl
 length-entries_of (a ∷ amps) [] h e = omega arith
 length-entries_of (a ∷ amps) (p ∷ phases) h e = ap suc (length-entries_of amps phases h.1 (omega arith))
 
-pub all_entries : (amps : List ℕ) (phases : List ℤ) (h : All Amplitude amps) → (length amps ≡ 513) × (length phases ≡ 513) → length (entries_of amps phases h) ≡ 513
+pub all_entries : (amps : List ℕ) (phases : List ℤ) (h : AllByRecursion Amplitude amps) → (length amps ≡ 513) × (length phases ≡ 513) → length (entries_of amps phases h) ≡ 513
 all_entries amps phases h e = omega (arith, length-entries_of amps phases h (omega (arith, e.0, e.1)), e.0)
 
 -- both lists 513 long, else entry 513 is refused; each amplitude at most 32767, else the first entry that has another is refused

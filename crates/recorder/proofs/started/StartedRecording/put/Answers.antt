@@ -17,4 +17,5 @@ returns c =
       count = sym (ap (λ (p : Bool). cond p (n + 1) n) t);
       bytes = e ∙ sym (ap (λ (p : Bool). cond p (overwrite (size_of n) (coded x) b) b) t);
       holds = subst (λ (a : List ℕ). Adds b a n x) (sym e) (adds b n x (omega arith));
+      short = λ k l. omega arith;
     }

@@ -23,4 +23,5 @@ returns c =
       answer = simp (r, s);
       bytes = written c.args.bytes.now c.place.new.bytes (header c.args.rate 0 0) (good_rate c.args.rate) (good_buffer (length c.args.bytes.now)) r s w;
       holds = ap (take 44) w;
+      short = λ l. omega arith;
     }
