@@ -1,8 +1,7 @@
 -- Letting a started recording go: what its drop asks for, which no recording that was started ever meets.
-use Rattle.std.specs.Prelude.{◌<◌}
+use Rattle.std.specs.Prelude.{◌≡◌}
 use Rattle.recorder.specs.declared.started.StartedRecording.{StartedRecording}
-use Rattle.recorder.specs.Writing.{size_of}
 
--- longer than any recording may be
-abbrev pub TooLong : StartedRecording → Type 0
-TooLong w = 65536 < size_of w.samples
+-- as many samples as its count can tell, which is far more than a recording may have
+abbrev pub Overfull : StartedRecording → Type 0
+Overfull w = w.samples ≡ 4294967295

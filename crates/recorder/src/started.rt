@@ -1,6 +1,6 @@
 // Writing a signal recording into a buffer: start, put, finish, abandon.
 ghost use Rattle.std.specs.Prelude.{◌≡◌, [], length, IfOk, OnOk};
-ghost use Rattle.recorder.specs.LetGo.{TooLong};
+ghost use Rattle.recorder.specs.LetGo.{Overfull};
 ghost use Rattle.recorder.specs.Writing.{start_answer, after_start, put_answer, put_count, after_put, finish_answer, after_finish, Holds, Adds, Finishes};
 
 use crate::encoding::{coded, header, le32, place};
@@ -14,8 +14,8 @@ const MAX_BYTES: usize = 65536;
 const MAX_RATE: u32 = 100_000_000;
 
 // A started recording: how many samples were put in. Its bytes are lent at each call. It must be finished or abandoned:
-// where a program lets it go, the check asks for a proof that it is longer than any recording may be. None is: not when it
-// starts, and no put makes it so.
+// where a program lets it go, the check asks for a proof that it has as many samples as its count can tell. None has: not
+// when it starts, and no put makes it so.
 #[derive(Debug)]
 pub struct StartedRecording {
     samples: u32,
@@ -23,7 +23,7 @@ pub struct StartedRecording {
 
 impl Drop for StartedRecording {
     fn drop(self)
-        requires { TooLong self }
+        requires { Overfull self }
     {
         let StartedRecording { samples: _ } = self;
     }
@@ -36,7 +36,7 @@ impl StartedRecording {
         ensures answer { result ≡ start_answer (length bytes.old) rate }
         ensures bytes { bytes.new ≡ after_start bytes.old rate }
         ensures holds { OnOk result (Holds bytes.new rate []) }
-        ensures short { IfOk result (λ w. ¬ TooLong w) }
+        ensures short { IfOk result (λ w. ¬ Overfull w) }
     {
         if rate < 1 || rate > MAX_RATE {
             return Err(WritingRefusal::Rate);
@@ -54,7 +54,7 @@ impl StartedRecording {
         ensures count { self.new.samples ≡ put_count (length bytes.old) self.old.samples }
         ensures bytes { bytes.new ≡ after_put bytes.old self.old.samples sample }
         ensures holds { OnOk result (Adds bytes.old bytes.new self.old.samples sample) }
-        ensures short { ¬ TooLong self.old → ¬ TooLong self.new }
+        ensures short { ¬ Overfull self.old → ¬ Overfull self.new }
     {
         let at = HEADER + 4 * self.samples as usize;
         if at + 4 > bytes.len() || at + 4 > MAX_BYTES {
