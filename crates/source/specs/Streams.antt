@@ -1,8 +1,10 @@
 -- A finite list of items and how it ends.
-use Rattle.std.specs.Prelude.{ℕ, zero, suc, ◌+◌, List, [], ◌∷◌, Some, None, Ok, Err, Option, Result}
+use Rattle.std.specs.Prelude.{ℕ, zero, suc, ◌+◌, List, [], ◌∷◌, drop, Some, None, Ok, Err, Option, Result}
 use Rattle.source.specs.declared.fault.Fault.{Fault}
-use Rattle.source.specs.declared.fault.Ending.{Ending}
-use Rattle.source.specs.declared.fault.Ending.TheVariants.{Finished, Faulted}
+
+-- how it ends: finished, or by a fault
+abbrev pub Ending : Type 0
+Ending = Result (Unit {0}) Fault
 
 pub record Stream (T : Type 0) : Type 0 where
   pub items : List T
@@ -10,8 +12,8 @@ pub record Stream (T : Type 0) : Type 0 where
 
 -- what `next` answers where no item is left
 abbrev pub at_end : {T : Type 0} → Ending → Result (Option T) Fault
-at_end Finished = Ok None
-at_end (Faulted f) = Err f
+at_end (Ok _) = Ok None
+at_end (Err f) = Err f
 
 abbrev pub first_of : {T : Type 0} → List T → Ending → Result (Option T) Fault
 first_of [] e = at_end e
@@ -28,6 +30,10 @@ tail (x ∷ xs) = xs
 -- what is left after `next`
 abbrev pub rest : {T : Type 0} → Stream T → Stream T
 rest s = record { items = tail s.items; ending = s.ending }
+
+-- what a stream has behind its first n items
+abbrev pub from : {T : Type 0} → ℕ → Stream T → Stream T
+from n s = record { items = drop n s.items; ending = s.ending }
 
 -- f k, f (k + 1), .. : n items
 abbrev pub tabulate : {T : Type 0} → (ℕ → T) → ℕ → ℕ → List T

@@ -37,6 +37,7 @@ impl fmt::Display for FaultKind {
 #[derive(Clone, Copy, PartialEq, Eq, Debug)]
 pub struct Fault {
     pub kind: FaultKind,
+    // Any number: who opens the bytes chooses it.
     pub input: u8,
     pub item: u64,
 }
@@ -50,9 +51,5 @@ impl fmt::Display for Fault {
     }
 }
 
-// How a finite list of items ends.
-#[derive(Clone, Copy, PartialEq, Eq, Debug)]
-pub enum Ending {
-    Finished,
-    Faulted(Fault),
-}
+// How a finite list of items ends: finished, or by a fault.
+pub type Ending = Result<(), Fault>;

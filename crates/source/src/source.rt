@@ -1,8 +1,9 @@
 // The interface of every source.
-ghost use Rattle.std.specs.Prelude.{◌≡◌};
+ghost use Rattle.std.specs.Prelude.{◌≡◌, []};
 ghost use Rattle.source.specs.Streams.{Stream, answer, rest};
 
-use crate::fault::Fault;
+use crate::fault::{Ending, Fault};
+use crate::items::Items;
 
 pub trait Source {
     // The kind of item that it hands out.
@@ -23,4 +24,26 @@ pub trait Source {
     fn rewind(&mut self)
         ensures moves { left self.new ≡ whole self.old }
         ensures same { whole self.new ≡ whole self.old };
+
+    // What is left, item by item.
+    final fn items(&mut self) -> Items<'_, Self>
+    where
+        Self: Sized,
+        ensures source { result.source.now ≡ self.old }
+        ensures same_reference { result.source.ghost_name ≡ self.entry.ghost_name }
+    {
+        Items::new(self)
+    }
+
+    // Passes over what is left, and tells how it ends.
+    final fn ending(&mut self) -> Ending
+    where
+        Self: Sized,
+        ensures tells { result ≡ (left self.old).ending }
+        ensures moves { left self.new ≡ record { items = []; ending = (left self.old).ending } }
+        ensures same { whole self.new ≡ whole self.old }
+    {
+        while self.next()?.is_some() {}
+        Ok(())
+    }
 }
