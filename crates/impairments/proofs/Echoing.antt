@@ -2,7 +2,7 @@
 use Rattle.std.proofs.Common.{◌≡◌, ℕ, ◌+◌, ◌*◌, ◌^◌, ◌<◌, List, length, get_or, take, ℤ, pos, ◌+ℤ◌, neg_ℤ, ◌≤ℤ◌, sym, ap, ◌∙◌, arith, w64, SFits, to_z, of_z}
 use Rattle.std.proofs.lemmas.Int.{ints, to_z-of_z}
 use Rattle.std.proofs.lemmas.List.Sums.{fold_more}
-use Rattle.samples.specs.Arithmetic.{Within}
+use Rattle.samples.specs.Bounds.{Between}
 use Rattle.samples.specs.declared.kinds.WorkingSample.{WorkingSample}
 use Rattle.impairments.specs.declared.path.Path.{Path}
 use Rattle.impairments.specs.Multipath.{total}
@@ -10,20 +10,17 @@ use Rattle.impairments.specs.Multipath.{total}
 -- after i paths the sum is e, and small enough for ten of them to fit
 pub record Summed (i : ℕ) (e sum : ℤ) : Type 0 where
   pub value : sum ≡ e
-  pub low : neg_ℤ (pos (i * 2 ^ 49)) ≤ℤ sum
-  pub high : sum ≤ℤ pos (i * 2 ^ 49)
+  pub low : neg_ℤ (pos (i * 2 ^ 31)) ≤ℤ sum
+  pub high : sum ≤ℤ pos (i * 2 ^ 31)
 
-summed_fits : (i : ℕ) (e s z : ℤ) → i < 10 → Summed i e s → Within 50 z → SFits w64 (s +ℤ z)
-summed_fits i e s z h m w = omega (arith, ints, w.0, w.1)
+summed_fits : (i : ℕ) (e s z : ℤ) → i < 10 → Summed i e s → Between (2 ^ 31) z → SFits w64 (s +ℤ z)
+summed_fits i e s z h m w = omega (arith, ints)
 
 -- the sum s of the code, and the echo z that it passes on
-pub turn_fits : (i : ℕ) (e s z : ℤ) → i < 10 → Summed i e s → SFits w64 z → Within 50 z → SFits w64 (s +ℤ to_z w64 (of_z w64 z))
-turn_fits i e s z h m f w = simp to_z-of_z (summed_fits i e s z h m w)
-
-pub turn : (i : ℕ) (e e' s z : ℤ) → i < 10 → Summed i e s → SFits w64 z → Within 50 z → e' ≡ e +ℤ z → Summed (i + 1) e' (to_z w64 (of_z w64 (s +ℤ to_z w64 (of_z w64 z))))
+pub turn : (i : ℕ) (e e' s z : ℤ) → i < 10 → Summed i e s → SFits w64 z → Between (2 ^ 31) z → e' ≡ e +ℤ z → Summed (i + 1) e' (to_z w64 (of_z w64 (s +ℤ to_z w64 (of_z w64 z))))
 turn i e e' s z h m f w q =
     let t : SFits w64 (s +ℤ z) = summed_fits i e s z h m w in
-    simp to_z-of_z (record { value = ap (λ (y : ℤ). y +ℤ z) m.value ∙ sym q; low = omega (arith, ints, w.0, w.1); high = omega (arith, ints, w.0, w.1) })
+    simp to_z-of_z (record { value = ap (λ (y : ℤ). y +ℤ z) m.value ∙ sym q; low = omega (arith, ints); high = omega (arith, ints) })
 
 -- one path more in a sum over the paths
 total_more : (f : Path → ℤ) (ps : List Path) (i : ℕ) (d : Path) → i < length ps → total f (take (i + 1) ps) ≡ total f (take i ps) +ℤ f (get_or ps i d)

@@ -4,11 +4,11 @@ use borrow.Author.Tests.{lt-leb}
 use Rattle.std.proofs.lemmas.List.{get_or-replicate, get_or-set_same, get_or-set_other}
 use Rattle.std.proofs.lemmas.Bool.{cases_lt}
 use Rattle.samples.specs.Arithmetic.{floor_by}
-use Rattle.samples.specs.Kinds.{working}
+use Rattle.samples.specs.Kinds.{working, silent}
 use Rattle.samples.specs.declared.kinds.WorkingSample.{WorkingSample}
 use Rattle.source.specs.Streams.{tabulate}
 use Rattle.impairments.specs.declared.path.Path.{Path}
-use Rattle.impairments.specs.Multipath.{silent, total, echo_re, echo_im, heard, before, echoes, ring, silence}
+use Rattle.impairments.specs.Multipath.{total, echo_re, echo_im, heard, before, echoes, ring, silence}
 
 -- only the last 64 samples are heard, since no delay is longer
 heard_same : (ps : List Path) (a b : ℕ → WorkingSample) → ((d : ℕ) → d ≤ 63 → a d ≡ b d) → heard ps a ≡ heard ps b

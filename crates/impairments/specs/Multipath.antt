@@ -1,14 +1,12 @@
 -- The echoes of a multipath channel.
-use Rattle.std.specs.Prelude.{ℕ, ◌+◌, ◌-◌, ◌%◌, ◌^◌, cond, List, length, take, ℤ, pos, ◌+ℤ◌, ◌-ℤ◌, ◌*ℤ◌, fold, nat_le, slice_index_or}
+use Rattle.std.specs.Prelude.{ℕ, ◌+◌, ◌-◌, ◌%◌, ◌^◌, cond, List, length, take, ℤ, pos, ◌+ℤ◌, fold, nat_le, slice_index_or}
 use Rattle.samples.specs.Arithmetic.{floor_by}
-use Rattle.samples.specs.Kinds.{working}
+use Rattle.samples.specs.Complex.{times}
+use Rattle.samples.specs.Kinds.{working, silent}
 use Rattle.samples.specs.declared.kinds.WorkingSample.{WorkingSample}
 use Rattle.source.specs.Streams.{tabulate}
 use Rattle.impairments.specs.declared.path.Path.{Path}
 use Rattle.impairments.specs.declared.paths.Paths.{Paths}
-
-abbrev pub silent : WorkingSample
-silent = record { re = pos 0; im = pos 0 }
 
 -- the paths that count
 abbrev pub used : Paths → List Path
@@ -16,10 +14,10 @@ used p = take p.count p.places
 
 -- coefficient times sample
 abbrev pub echo_re : Path → WorkingSample → ℤ
-echo_re p x = (p.re *ℤ x.re) -ℤ (p.im *ℤ x.im)
+echo_re p x = (times (p.re, p.im) (x.re, x.im)).0
 
 abbrev pub echo_im : Path → WorkingSample → ℤ
-echo_im p x = (p.re *ℤ x.im) +ℤ (p.im *ℤ x.re)
+echo_im p x = (times (p.re, p.im) (x.re, x.im)).1
 
 -- a sum over the paths
 unfoldable pub total : (Path → ℤ) → List Path → ℤ

@@ -19,8 +19,8 @@ impl Mapping for Adding {
 
     fn apply(&self, x: (AirSample, AirSample)) -> AirSample {
         let (signal, noise) = x;
-        let re = signal.re() + noise.re();
-        let im = signal.im() + noise.im();
+        let re = i64::from(signal.re) + i64::from(noise.re);
+        let im = i64::from(signal.im) + i64::from(noise.im);
         AirSample::new(re, im)
     }
 }

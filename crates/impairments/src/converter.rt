@@ -2,7 +2,6 @@
 ghost use Rattle.std.specs.Prelude.{◌≡◌};
 ghost use Rattle.impairments.specs.Levels.{quantized};
 
-use samples::arithmetic::floor_shift;
 use samples::converter::ConverterSample;
 use samples::kinds::AirSample;
 use samples::sample::Sample;
@@ -20,8 +19,6 @@ impl Mapping for Quantizer {
     ghost formula = { λ _ x. quantized x };
 
     fn apply(&self, x: AirSample) -> ConverterSample {
-        let re = floor_shift(x.re(), 4);
-        let im = floor_shift(x.im(), 4);
-        ConverterSample::new(re, im)
+        ConverterSample::divided(i64::from(x.re), i64::from(x.im), 4)
     }
 }

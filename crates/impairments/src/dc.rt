@@ -7,7 +7,7 @@ use samples::sample::Sample;
 use stages::each::Mapping;
 use std::marker::PhantomData;
 
-// The offset added to each sample of kind K.
+// The offset added to each sample of kind K, which stands in the type: a mapping has one kind of item.
 #[derive(Drop)]
 pub struct DcOffset<K> {
     offset: Offset,
@@ -33,8 +33,8 @@ impl<K: Sample> Mapping for DcOffset<K> {
     ghost formula = { λ s x. offset_by K.Sample.sample s.offset (K.Sample.real x) (K.Sample.imaginary x) };
 
     fn apply(&self, x: K) -> K {
-        let re = x.re() + self.offset.re as i64;
-        let im = x.im() + self.offset.im as i64;
+        let re = i64::from(x.re()) + i64::from(self.offset.re);
+        let im = i64::from(x.im()) + i64::from(self.offset.im);
         K::new(re, im)
     }
 }

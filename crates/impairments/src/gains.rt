@@ -1,10 +1,11 @@
 // Gains: the channel's, from working to air samples, and the receiver's, which is chosen anew for every sample.
 ghost use Rattle.std.specs.Prelude.{◌≡◌, ◌^◌, ◌≤◌, length, pos, ◌*ℤ◌};
-ghost use Rattle.samples.specs.Arithmetic.{Within};
+ghost use Rattle.samples.specs.Bounds.{Between};
 ghost use Rattle.impairments.specs.Levels.{gained_part, gained, chosen};
 
 use crate::gain::Gain;
 use crate::product::times;
+use samples::arithmetic::floor_shift;
 use samples::gain_index::GainIndex;
 use samples::kinds::{AirSample, WorkingSample};
 use samples::sample::Sample;
@@ -41,7 +42,7 @@ impl ReceiveGain {
 
 // product × 2^by
 fn raised(product: i64, by: u32) -> i64
-    requires product { Within 49 product }
+    requires product { Between (2 ^ 39) product }
     requires by { by ≤ 10 }
     ensures { result ≡ product *ℤ pos (2 ^ by) }
 {
@@ -49,15 +50,15 @@ fn raised(product: i64, by: u32) -> i64
 }
 
 // x × factor × 2^(shift - 8), rounded down.
-fn gained_part(gain: Gain, x: i64) -> i64
-    requires { Within 32 x }
+fn gained_part(gain: Gain, x: i32) -> i64
     ensures { result ≡ gained_part gain x }
 {
-    let product = times(gain.factor as i64, x);
+    let product = times(i32::from(gain.factor), x);
+    let places = u32::from(gain.shift.abs_diff(8));
     if gain.shift >= 8 {
-        raised(product, (gain.shift - 8) as u32)
+        raised(product, places)
     } else {
-        product >> ((8 - gain.shift) as u32)
+        floor_shift(product, places)
     }
 }
 
@@ -91,6 +92,6 @@ impl Mapping for ReceiveGain {
 
     fn apply(&self, x: (AirSample, GainIndex)) -> AirSample {
         let (sample, index) = x;
-        gained(self.gains[index.index as usize], sample)
+        gained(self.gains[usize::from(index.index)], sample)
     }
 }

@@ -1,6 +1,5 @@
 // I/Q imbalance: the two branches of a mixer differ in gain, and one leaks into the other.
 ghost use Rattle.std.specs.Prelude.{◌≡◌};
-ghost use Rattle.samples.specs.Arithmetic.{Within};
 ghost use Rattle.impairments.specs.Levels.{balanced, balanced_re, balanced_im};
 
 use crate::balance::Balance;
@@ -10,7 +9,7 @@ use samples::sample::Sample;
 use stages::each::Mapping;
 use std::marker::PhantomData;
 
-// The imbalance of every sample of kind K.
+// The imbalance of every sample of kind K, which stands in the type: a mapping has one kind of item.
 #[derive(Drop)]
 pub struct Imbalance<K> {
     balance: Balance,
@@ -28,22 +27,18 @@ impl<K: Sample> Imbalance<K> {
     }
 }
 
-fn balanced_re(balance: Balance, re: i64, im: i64) -> i64
-    requires re { Within 32 re }
-    requires im { Within 32 im }
+fn balanced_re(balance: Balance, re: i32, im: i32) -> i64
     ensures { result ≡ balanced_re balance re im }
 {
-    floor_shift(
-        times(balance.a as i64, re) + times(balance.c as i64, im),
-        14,
-    )
+    let own = times(i32::from(balance.a), re);
+    let leaked = times(i32::from(balance.c), im);
+    floor_shift(own + leaked, 14)
 }
 
-fn balanced_im(balance: Balance, im: i64) -> i64
-    requires { Within 32 im }
+fn balanced_im(balance: Balance, im: i32) -> i64
     ensures { result ≡ balanced_im balance im }
 {
-    floor_shift(times(balance.b as i64, im), 14)
+    floor_shift(times(i32::from(balance.b), im), 14)
 }
 
 impl<K: Sample> Mapping for Imbalance<K> {

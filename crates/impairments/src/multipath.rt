@@ -1,18 +1,18 @@
 // Multipath: the sum of delayed copies of the signal, each times a complex coefficient.
-ghost use Rattle.std.specs.Prelude.{◌≡◌, ◌<◌, length, ◌*ℤ◌};
+ghost use Rattle.std.specs.Prelude.{◌≡◌, ◌^◌, ◌<◌, length};
 ghost use Rattle.std.proofs.Math.Path.{refl};
-ghost use Rattle.samples.specs.Arithmetic.{Within};
+ghost use Rattle.samples.specs.Bounds.{Between};
 ghost use Rattle.impairments.specs.Multipath.{used, echo_re, echo_im, heard, echoes, silence, ring};
 
 use crate::path::Path;
 use crate::paths::Paths;
-use crate::product::times;
-use samples::arithmetic::floor_shift;
+use samples::complex::product;
 use samples::kinds::WorkingSample;
 use samples::sample::Sample;
 use stages::scan::Memory;
 
-// The echo line is a ring of the last 64 samples: the one j places back stands j places behind the newest, round the end.
+// The echo line is a ring of the last 64 samples, the one j places back j places behind the newest, round the end. An array
+// and a place, not a deque: a stage holds no heap.
 #[derive(Drop)]
 pub struct Multipath {
     paths: Paths,
@@ -22,31 +22,15 @@ pub struct Multipath {
     ghost inside: { newest < 64 },
 }
 
-// One of the four products of coefficient × sample.
-fn product(coefficient: i16, part: i16) -> i64
-    ensures value { result ≡ coefficient *ℤ part }
-    ensures within { Within 49 result }
-{
-    times(coefficient as i64, part as i64)
-}
-
 // The echo of sample x on a path: coefficient × x.
-fn echo_re(path: Path, x: WorkingSample) -> i64
-    ensures value { result ≡ echo_re path x }
-    ensures within { Within 50 result }
+fn echo(path: Path, x: WorkingSample) -> (i64, i64)
+    ensures re { result.0 ≡ echo_re path x }
+    ensures im { result.1 ≡ echo_im path x }
+    ensures re_within { Between (2 ^ 31) result.0 }
+    ensures im_within { Between (2 ^ 31) result.1 }
 {
-    product(path.re, x.re) - product(path.im, x.im)
+    product((path.re, path.im), (x.re, x.im))
 }
-
-fn echo_im(path: Path, x: WorkingSample) -> i64
-    ensures value { result ≡ echo_im path x }
-    ensures within { Within 50 result }
-{
-    product(path.re, x.im) + product(path.im, x.re)
-}
-
-// Every sample before the first is 0.
-const SILENT: WorkingSample = WorkingSample { re: 0, im: 0 };
 
 impl Multipath {
     // Starts with an empty echo line.
@@ -56,7 +40,7 @@ impl Multipath {
     {
         Multipath {
             paths,
-            echo_line: [SILENT; 64],
+            echo_line: [WorkingSample::SILENCE; 64],
             newest: 0,
         }
     }
@@ -68,7 +52,8 @@ impl Multipath {
         self.echo_line[(self.newest + delay as usize) & 63]
     }
 
-    // The sum of the echoes of all paths, rounded down and clipped once.
+    // The sum of the echoes of all paths, rounded down and clipped once. By rule it goes over the path records with
+    // their index.
     fn heard(&self) -> WorkingSample
         ensures { result ≡ heard (used self.now.paths) (ring self.now.echo_line self.now.newest) }
     {
@@ -79,10 +64,11 @@ impl Multipath {
                 break;
             }
             let x = self.back(path.delay);
-            re += echo_re(*path, x);
-            im += echo_im(*path, x);
+            let (echo_re, echo_im) = echo(*path, x);
+            re += echo_re;
+            im += echo_im;
         }
-        WorkingSample::new(floor_shift(re, 13), floor_shift(im, 13))
+        WorkingSample::divided(re, im, 13)
     }
 }
 
@@ -104,6 +90,6 @@ impl Memory for Multipath {
     }
 
     fn reset(&mut self) {
-        self.echo_line = [SILENT; 64];
+        self.echo_line = [WorkingSample::SILENCE; 64];
     }
 }

@@ -2,7 +2,8 @@ ghost use Rattle.std.specs.Prelude.{◌≡◌, ◌≤◌, length, take};
 
 use crate::path::Path;
 
-// The paths of a multipath channel: the first `count` of ten places, 1 to 10.
+// The paths of a multipath channel: the first `count` of ten places, 1 to 10. Not a `Vec`: settings hold no heap, and making
+// them cannot run out of memory.
 #[derive(Clone, Copy)]
 pub struct Paths {
     pub places: [Path; 10],

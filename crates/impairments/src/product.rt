@@ -1,13 +1,11 @@
-// The product that the level formulas and the echoes are built of.
-ghost use Rattle.std.specs.Prelude.{◌≡◌, ◌*ℤ◌};
-ghost use Rattle.samples.specs.Arithmetic.{Within};
+// The product that the level formulas are built of.
+ghost use Rattle.std.specs.Prelude.{◌≡◌, ◌*◌, ◌^◌, ◌*ℤ◌, unsigned_abs};
+ghost use Rattle.samples.specs.Bounds.{Between};
 
-// factor × x, whole. Sums of many of these fit 64 bits.
-pub(crate) fn times(factor: i64, x: i64) -> i64
-    requires factor { Within 17 factor }
-    requires part { Within 32 x }
+// factor × x, whole; a factor of few bits leaves room for sums and shifts.
+pub(crate) fn times(factor: i32, x: i32) -> i64
     ensures value { result ≡ factor *ℤ x }
-    ensures within { Within 49 result }
+    ensures within { Between (unsigned_abs factor * 2 ^ 31) result }
 {
-    factor * x
+    i64::from(factor) * i64::from(x)
 }

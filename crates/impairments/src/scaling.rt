@@ -1,6 +1,5 @@
 // Scaling: from converter samples to working samples.
 ghost use Rattle.std.specs.Prelude.{◌≡◌};
-ghost use Rattle.samples.specs.Arithmetic.{Within};
 ghost use Rattle.impairments.specs.Levels.{scaled, scaled_part};
 
 use crate::product::times;
@@ -25,11 +24,10 @@ impl Scaling {
     }
 }
 
-fn scaled_part(factor: u16, x: i64) -> i64
-    requires { Within 32 x }
+fn scaled_part(factor: u16, x: i32) -> i64
     ensures { result ≡ scaled_part factor x }
 {
-    floor_shift(times(factor as i64, x), 8)
+    floor_shift(times(i32::from(factor), x), 8)
 }
 
 impl Mapping for Scaling {

@@ -1,5 +1,5 @@
 -- A test that passes at each number below n, computed once, then carried to each number.
-use Rattle.std.proofs.Common.{◌≡◌, ℕ, zero, suc, ◌<◌, Bool, true, false, T, ◌⊎◌, sym, subst, inl, inr, not-suc-le-zero, arith}
+use Rattle.std.proofs.Common.{◌≡◌, ℕ, zero, suc, ◌<◌, Bool, true, false, T, sym, subst, inl, inr, not-suc-le-zero, arith}
 use Rattle.std.proofs.lemmas.Bool.{cases_eq}
 
 unfoldable pub both : Bool → Bool → Bool

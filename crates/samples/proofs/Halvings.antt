@@ -1,7 +1,7 @@
 -- The rule of the cosines: each part of it is one test over all its numbers.
-use Rattle.std.proofs.Common.{◌≡◌, ℕ, ◌+◌, ◌-◌, ◌*◌, ◌/◌, ◌%◌, ◌^◌, ◌≤◌, Bool, T, eqb, ltb, leb, refl, arith, lit<, lit≤, eqb→eq, ltb→lt, leb→le}
+use Rattle.std.proofs.Common.{ℕ, ◌+◌, ◌-◌, ◌*◌, ◌/◌, ◌%◌, ◌^◌, ◌≤◌, Bool, eqb, ltb, leb, refl, arith, lit<, lit≤, eqb→eq, ltb→lt, leb→le}
 use Rattle.std.proofs.lemmas.Bool.{eq-eqb, lt-ltb}
-use Rattle.samples.specs.Roots.{Root, root, root_from, grown}
+use Rattle.samples.specs.Roots.{root, root_from, grown}
 use Rattle.samples.specs.Phasors.{Halving, step_cosine, fine_cosine, cosine, rounded, halvings, halved}
 use Rattle.samples.proofs.Below.{both, all, at, where_so, so}
 

@@ -3,3 +3,4 @@ pub mod Halvings
 pub mod Products
 pub mod Quarters
 pub mod RootFacts
+pub mod Ways

@@ -25,3 +25,7 @@ back m (negsuc a) h = record { low = omega (arith, ints); high = omega (arith, i
 pub product_between : (m n : ℕ) (a b : ℤ) → Between m a → Between n b → Between (m * n) (a *ℤ b)
 product_between m n a b p q =
     back (m * n) (a *ℤ b) (rw nat_abs_mul (mul-le (nat_abs a) (nat_abs b) m n (abs m a p) (abs n b q)))
+
+pub own_size : (z : ℤ) → Between (nat_abs z) z
+own_size (pos a) = record { low = omega (arith, ints); high = omega (arith, ints) }
+own_size (negsuc a) = record { low = omega (arith, ints); high = omega (arith, ints) }

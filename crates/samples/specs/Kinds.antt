@@ -20,6 +20,10 @@ converter re im =
 abbrev pub working : ℤ → ℤ → WorkingSample
 working re im = record { re = clip 16 re; im = clip 16 im }
 
+-- the working sample 0
+abbrev pub silent : WorkingSample
+silent = record { re = pos 0; im = pos 0 }
+
 abbrev pub air : ℤ → ℤ → AirSample
 air re im = record { re = clip 32 re; im = clip 32 im }
 

@@ -1,5 +1,7 @@
 pub mod Arithmetic
 pub mod Bounds
+pub mod Complex
+pub mod Interpolation
 pub mod Laws
 pub mod Kinds
 pub mod Roots

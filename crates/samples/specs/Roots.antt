@@ -1,5 +1,5 @@
 -- Square roots of whole numbers, rounded down.
-use Rattle.std.specs.Prelude.{ℕ, zero, suc, ◌+◌, ◌*◌, ◌^◌, ◌<◌, ◌≤◌, Bool, true, false, cond, nat_le}
+use Rattle.std.specs.Prelude.{ℕ, zero, suc, ◌+◌, ◌*◌, ◌^◌, ◌<◌, ◌≤◌, Bool, true, false, nat_le}
 
 -- m is the greatest whole number whose square is at most n
 pub record Root (n m : ℕ) : Type 0 where

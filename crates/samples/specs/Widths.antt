@@ -1,5 +1,5 @@
 -- The laws of rounding and clipping, over the width.
-use Rattle.std.specs.Prelude.{◌≡◌, ℕ, ◌-◌, ◌/◌, ◌^◌, ◌<◌, ◌≤◌, min, ℤ, pos, negsuc, ◌+ℤ◌, ◌*ℤ◌, ◌≤ℤ◌, ◌<ℤ◌}
+use Rattle.std.specs.Prelude.{◌≡◌, ℕ, ◌-◌, ◌/◌, ◌^◌, ◌<◌, ◌≤◌, ℤ, pos, negsuc, ◌+ℤ◌, ◌*ℤ◌, ◌≤ℤ◌, ◌<ℤ◌}
 use Rattle.std.proofs.Common.{arith, div-add-mod', mod-lt, suc-mul, pow_pos, pow_mono}
 use Rattle.std.proofs.lemmas.Int.{ints}
 use Rattle.samples.specs.Arithmetic.{floor_by, clip, Within}

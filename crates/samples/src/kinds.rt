@@ -24,6 +24,12 @@ pub struct AirSample {
     pub im: i32,
 }
 
+impl WorkingSample {
+    // The sample 0, as what stands before the first one.
+    pub const SILENCE: WorkingSample = WorkingSample { re: 0, im: 0 };
+}
+
+// One impl a kind: the types of their fields differ.
 impl Sample for ConverterSample {
     ghost bits = { 12 };
 
@@ -48,12 +54,12 @@ impl Sample for ConverterSample {
         }
     }
 
-    fn re(self) -> i64 {
-        self.re as i64
+    fn re(self) -> i32 {
+        i32::from(self.re)
     }
 
-    fn im(self) -> i64 {
-        self.im as i64
+    fn im(self) -> i32 {
+        i32::from(self.im)
     }
 }
 
@@ -81,12 +87,12 @@ impl Sample for WorkingSample {
         }
     }
 
-    fn re(self) -> i64 {
-        self.re as i64
+    fn re(self) -> i32 {
+        i32::from(self.re)
     }
 
-    fn im(self) -> i64 {
-        self.im as i64
+    fn im(self) -> i32 {
+        i32::from(self.im)
     }
 }
 
@@ -114,12 +120,12 @@ impl Sample for AirSample {
         }
     }
 
-    fn re(self) -> i64 {
-        self.re as i64
+    fn re(self) -> i32 {
+        self.re
     }
 
-    fn im(self) -> i64 {
-        self.im as i64
+    fn im(self) -> i32 {
+        self.im
     }
 }
 

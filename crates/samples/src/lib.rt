@@ -5,12 +5,15 @@
 //
 // Proved: every maker moves each number to the nearest one of its range; over every width, clipping keeps order, leaves
 // numbers in range alone and ends in range; rounding is towards minus infinity; the table of cosines keeps the rule of
-// halving, and every phasor is made of it by the quarter that it lies in.
+// halving, and every phasor is made of it by the quarter that it lies in; a complex product is whole, and what is
+// interpolated lies between its two ends.
 #![tactic(auto)]
 
 pub mod arithmetic;
+pub mod complex;
 pub mod converter;
 pub mod gain_index;
+pub mod interpolation;
 pub mod kinds;
 pub mod phasor;
 pub mod sample;

@@ -38,16 +38,17 @@ fn cosine_at(k: usize) -> u16
 }
 
 // x, or -x.
-fn signed(x: u16, negative: bool) -> i64
+fn signed(x: u16, negative: bool) -> i16
+    requires { x ≤ 16384 }
     ensures { result ≡ (if negative then neg_ℤ (pos x) else pos x) }
 {
-    if negative { -(x as i64) } else { x as i64 }
+    if negative { -(x as i16) } else { x as i16 }
 }
 
 // Cosine and sine of n of 1024 parts of a turn. n counts modulo 1024.
 //
 // In the odd quarters the table is read backwards. The cosine is negative in quarters 1 and 2, the sine in 2 and 3.
-pub fn phasor(n: u16) -> (i64, i64)
+pub fn phasor(n: u16) -> (i16, i16)
     ensures value { result ≡ phasor_of n }
     ensures cosine_within { Between 16384 result.0 }
     ensures sine_within { Between 16384 result.1 }

@@ -1,6 +1,8 @@
 // What every kind of sample has in common.
-ghost use Rattle.std.specs.Prelude.{◌≡◌, ℕ, ◌≤◌, ℤ};
-ghost use Rattle.samples.specs.Arithmetic.{clip, Within};
+ghost use Rattle.std.specs.Prelude.{◌≡◌, ℕ, ◌^◌, ◌≤◌, ℤ};
+ghost use Rattle.samples.specs.Arithmetic.{clip, floor_by, Within};
+
+use crate::arithmetic::floor_shift;
 
 // A sample has two parts of `bits` bits each.
 pub trait Sample: Copy {
@@ -15,15 +17,22 @@ pub trait Sample: Copy {
     fn new(re: i64, im: i64) -> Self
         ensures { result ≡ sample re im };
 
-    fn re(self) -> i64
+    // The nearest sample after division by 2^places, each number rounded down first.
+    fn divided(re: i64, im: i64, places: u32) -> Self
+        ensures { result ≡ sample (floor_by re (2 ^ places)) (floor_by im (2 ^ places)) }
+    {
+        Self::new(floor_shift(re, places), floor_shift(im, places))
+    }
+
+    fn re(self) -> i32
         ensures value { result ≡ real self }
         ensures within { Within bits result };
 
-    fn im(self) -> i64
+    fn im(self) -> i32
         ensures value { result ≡ imaginary self }
         ensures within { Within bits result };
 
-    // so that 64 bits hold a part times any setting
+    // so that an `i32` holds a part, and 64 bits a part times any setting
     ghost word: { bits ≤ 32 };
 
     ghost real_clipped: { (a b : ℤ) → real (sample a b) ≡ clip bits a };

@@ -1,7 +1,5 @@
 mod Clocks
-mod Copies
 mod Outputs
 mod Positions
 mod Steps
 mod Tables
-mod Ways

@@ -2,7 +2,8 @@
 use Rattle.std.proofs.Common.{◌≡◌, ℕ, suc, ◌+◌, ◌-◌, ◌*◌, ◌/◌, ◌^◌, ◌<◌, ◌≤◌, List, [], ◌∷◌, length, get_or, refl, ap, ◌∙◌, suc-mul, zero-mul, add-one, arith}
 use Rattle.samples.specs.declared.kinds.WorkingSample.{WorkingSample}
 use Rattle.source.specs.Streams.{tabulate}
-use Rattle.stages.specs.Clock.{index, fraction, sample_between, silence, on_line, output_at, count_from, outputs, outputs_from}
+use Rattle.samples.specs.Kinds.{silent}
+use Rattle.stages.specs.Clock.{index, fraction, sample_between, on_line, output_at, count_from, outputs, outputs_from}
 use Rattle.stages.proofs.Positions.{count_on, count_start, count_none, count_more}
 use Rattle.stages.proofs.Tables.{tabulate_same, tabulate_on}
 
@@ -12,8 +13,8 @@ shorter_line x xs q r e =
     let i : index q ≡ suc (index r) = omega arith in
     let f : fraction q ≡ fraction r = omega arith in
     let n : index q + 1 ≡ suc (index r + 1) = omega arith in
-    let a : get_or (x ∷ xs) (index q) silence ≡ get_or xs (index r) silence = ap (λ (k : ℕ). get_or (x ∷ xs) k silence) i in
-    let b : get_or (x ∷ xs) (index q + 1) silence ≡ get_or xs (index r + 1) silence = ap (λ (k : ℕ). get_or (x ∷ xs) k silence) n in
+    let a : get_or (x ∷ xs) (index q) silent ≡ get_or xs (index r) silent = ap (λ (k : ℕ). get_or (x ∷ xs) k silent) i in
+    let b : get_or (x ∷ xs) (index q + 1) silent ≡ get_or xs (index r + 1) silent = ap (λ (k : ℕ). get_or (x ∷ xs) k silent) n in
     cc
 
 -- an item is drawn
@@ -28,8 +29,8 @@ here before last xs p q h e =
     let i : index q ≡ 0 = omega arith in
     let n : index q + 1 ≡ 1 = omega arith in
     let f : fraction q ≡ p / 2 ^ 37 = omega arith in
-    let a : get_or (before ∷ last ∷ xs) (index q) silence ≡ before = ap (λ (k : ℕ). get_or (before ∷ last ∷ xs) k silence) i in
-    let b : get_or (before ∷ last ∷ xs) (index q + 1) silence ≡ last = ap (λ (k : ℕ). get_or (before ∷ last ∷ xs) k silence) n in
+    let a : get_or (before ∷ last ∷ xs) (index q) silent ≡ before = ap (λ (k : ℕ). get_or (before ∷ last ∷ xs) k silent) i in
+    let b : get_or (before ∷ last ∷ xs) (index q + 1) silent ≡ last = ap (λ (k : ℕ). get_or (before ∷ last ∷ xs) k silent) n in
     cc
 
 -- an output is handed out
@@ -47,7 +48,7 @@ pub exhausted : (step : ℕ) (before last : WorkingSample) (p : ℕ) → 0 < ste
 exhausted step before last p s h = ap (tabulate (λ m. on_line (before ∷ last ∷ []) (p + m * step)) 0) (count_none step p s h)
 
 -- at the start output m stands at m × step
-pub started : (step : ℕ) (xs : List WorkingSample) → outputs_from step silence silence (2 ^ 53) xs ≡ outputs step xs
+pub started : (step : ℕ) (xs : List WorkingSample) → outputs_from step silent silent (2 ^ 53) xs ≡ outputs step xs
 started step xs =
-    let f : (j : ℕ) → on_line (silence ∷ silence ∷ xs) (2 ^ 53 + j * step) ≡ output_at xs (j * step) = λ j. shorter_line silence (silence ∷ xs) (2 ^ 53 + j * step) (j * step) refl ∙ rw add-one in
+    let f : (j : ℕ) → on_line (silent ∷ silent ∷ xs) (2 ^ 53 + j * step) ≡ output_at xs (j * step) = λ j. shorter_line silent (silent ∷ xs) (2 ^ 53 + j * step) (j * step) refl ∙ rw add-one in
     tabulate_same _ _ f 0 (count_from step (2 ^ 53) (length xs)) ∙ ap (tabulate (λ m. output_at xs (m * step)) 0) (count_start step (length xs))

@@ -1,8 +1,8 @@
 -- The arithmetic of the clock's positions.
-use Rattle.std.proofs.Common.{◌≡◌, ℕ, suc, ◌+◌, ◌-◌, ◌*◌, ◌/◌, ◌^◌, ◌<◌, ◌≤◌, ap, ◌∙◌, inl, inr, suc-mul, div-lt_iff_lt-mul, le-div_iff_mul-le, arith, lit<}
+use Rattle.std.proofs.Common.{◌≡◌, ℕ, suc, ◌+◌, ◌-◌, ◌*◌, ◌/◌, ◌^◌, ◌<◌, ◌≤◌, ap, ◌∙◌, inl, inr, arith}
 use native.Mathlib.Nat.{div-eq-sub-div, div-eq_of_lt}
 use Rattle.std.proofs.lemmas.Bool.{cases_lt}
-use Rattle.stages.specs.Clock.{count_from, output_count, ExistsExactly}
+use Rattle.stages.specs.Clock.{count_from, output_count}
 
 -- with an item drawn, the same outputs stand one item nearer
 pub count_on : (step p n : ℕ) → 2 ^ 53 ≤ p → count_from step p (suc n) ≡ count_from step (p - 2 ^ 53) n
@@ -39,13 +39,3 @@ count_more step p n s h =
     let d : 0 < (n + 1) * 2 ^ 53 - p = omega arith in
     let e : (n + 1) * 2 ^ 53 - p - step ≡ (n + 1) * 2 ^ 53 - (p + step) = omega arith in
     shorter ((n + 1) * 2 ^ 53 - p) step d s ∙ ap (λ (x : ℕ). suc ((x + (step - 1)) / step)) e
-
--- an output exists exactly if the item that it reaches does
-pub exists_exactly : (step : ℕ) → 0 < step → ExistsExactly step
-exists_exactly step s m n =
-    let count = le-div_iff_mul-le {k = step} {x = suc m} {y = n * 2 ^ 53 + (step - 1)} s in
-    let reach = div-lt_iff_lt-mul {k = 2 ^ 53} {x = m * step} {y = n} (lit< tt) in
-    let e : suc m * step ≡ m * step + step = suc-mul m step in (
-      λ h. let g : suc m * step ≤ n * 2 ^ 53 + (step - 1) = count.0 h in reach.1 (omega arith),
-      λ h. let g : m * step < n * 2 ^ 53 = reach.0 h in count.1 (omega arith),
-    )

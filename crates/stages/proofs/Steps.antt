@@ -3,7 +3,6 @@ use Rattle.std.proofs.Common.{◌≡◌, ℕ, suc, ◌+◌, ◌-◌, ◌<◌, Li
 use Rattle.samples.specs.declared.kinds.AirSample.{AirSample}
 use Rattle.source.specs.Streams.{answer, rest, first_of, tail, tabulate}
 use Rattle.source.specs.declared.fault.Fault.{Fault}
-use Rattle.source.specs.declared.fault.Ending.TheVariants.{Finished}
 use Rattle.stages.specs.Noise.{stepped, steps, level, noise_item, noise}
 use Rattle.stages.proofs.Tables.{tabulate_on, tabulate_first}
 
@@ -18,9 +17,9 @@ peeled n re im h = tabulate_first (noise_item re im) 0 n h ∙ ap (λ t. noise_i
 -- the levels of the states after one step are the first item
 pub first_item : (n re im : ℕ) (a b : ℤ) → 0 < n → a ≡ level (stepped re) → b ≡ level (stepped im) → ◌≡◌ {A = Result (Option AirSample) Fault} (Ok (Some record { re = a; im = b })) (answer (noise n re im))
 first_item n re im a b h p q =
-    let e = ap (λ (xs : List AirSample). first_of xs Finished) (peeled n re im h) in
+    let e = ap (λ (xs : List AirSample). first_of xs (Ok tt)) (peeled n re im h) in
     cc
 
 -- and the others are what these states make
 pub other_items : (n re im : ℕ) → 0 < n → noise (n - 1) (stepped re) (stepped im) ≡ rest (noise n re im)
-other_items n re im h = sym (ap (λ (xs : List AirSample). record { items = tail xs; ending = Finished }) (peeled n re im h))
+other_items n re im h = sym (ap (λ (xs : List AirSample). record { items = tail xs; ending = Ok tt }) (peeled n re im h))

@@ -1,7 +1,8 @@
 -- The clock offset: each output stands on the straight line between two neighbours of the items below.
 -- Positions are counted in units of 2 ^ -53 of an item.
-use Rattle.std.specs.Prelude.{ℕ, ◌+◌, ◌-◌, ◌*◌, ◌/◌, ◌%◌, ◌^◌, ◌<◌, Bool, cond, ◌↔◌, List, ◌∷◌, length, ℤ, pos, ◌+ℤ◌, ◌-ℤ◌, ◌*ℤ◌, slice_index_or, unsigned_abs}
-use Rattle.samples.specs.Arithmetic.{floor_by}
+use Rattle.std.specs.Prelude.{ℕ, ◌+◌, ◌-◌, ◌*◌, ◌/◌, ◌%◌, ◌^◌, ◌<◌, Bool, cond, ◌↔◌, List, ◌∷◌, length, ℤ, pos, ◌+ℤ◌, slice_index_or, unsigned_abs}
+use Rattle.samples.specs.Interpolation.{linear}
+use Rattle.samples.specs.Kinds.{silent}
 use Rattle.samples.specs.declared.kinds.WorkingSample.{WorkingSample}
 use Rattle.source.specs.Streams.{Stream, tabulate}
 use Rattle.stages.specs.Wholes.{remade}
@@ -21,23 +22,19 @@ fraction p = p % 2 ^ 53 / 2 ^ 37
 
 -- a + floor ((b - a) × f / 2 ^ 16)
 abbrev pub between : ℤ → ℤ → ℕ → ℤ
-between a b f = a +ℤ floor_by ((b -ℤ a) *ℤ pos f) (2 ^ 16)
+between a b f = linear a b f 16
 
 -- the same for each part
 abbrev pub sample_between : WorkingSample → WorkingSample → ℕ → WorkingSample
 sample_between x y f = record { re = between x.re y.re f; im = between x.im y.im f }
 
--- the sample 0
-abbrev pub silence : WorkingSample
-silence = record { re = pos 0; im = pos 0 }
-
 -- x_(i - 1), which is 0 before the first item
 abbrev pub item_before : List WorkingSample → ℕ → WorkingSample
-item_before xs i = slice_index_or (silence ∷ xs) i silence
+item_before xs i = slice_index_or (silent ∷ xs) i silent
 
 -- the output at position p: x_(i - 1) + floor ((x_i - x_(i - 1)) × f / 2 ^ 16), with i and f of p
 abbrev pub output_at : List WorkingSample → ℕ → WorkingSample
-output_at xs p = sample_between (item_before xs (index p)) (slice_index_or xs (index p) silence) (fraction p)
+output_at xs p = sample_between (item_before xs (index p)) (slice_index_or xs (index p) silent) (fraction p)
 
 -- how many outputs n items give: ceil (n × 2 ^ 53 / step)
 abbrev pub output_count : ℕ → ℕ → ℕ
@@ -60,7 +57,7 @@ ExistsExactly step = (m n : ℕ) → (m < output_count step n) ↔ (index (m * s
 
 -- the point at position p of the line through a list of items
 abbrev pub on_line : List WorkingSample → ℕ → WorkingSample
-on_line xs p = sample_between (slice_index_or xs (index p) silence) (slice_index_or xs (index p + 1) silence) (fraction p)
+on_line xs p = sample_between (slice_index_or xs (index p) silent) (slice_index_or xs (index p + 1) silent) (fraction p)
 
 -- how many outputs stand on the line from position p on, with n items to come
 abbrev pub count_from : ℕ → ℕ → ℕ → ℕ
@@ -73,7 +70,3 @@ outputs_from step before last p xs = tabulate (λ m. on_line (before ∷ last �
 -- the same for the numbers of a line
 abbrev pub outputs_on : Line → List WorkingSample → List WorkingSample
 outputs_on l = outputs_from l.step l.before l.last l.position
-
--- the clock's left from the left below
-abbrev pub clocked_on : Bool → Line → Stream WorkingSample → Stream WorkingSample
-clocked_on bypassed l s = cond bypassed s (remade (outputs_on l) s)

@@ -1,16 +1,17 @@
 -- What each lowest source and each stage means by its whole and its left, from its own state and from what the sources
 -- below mean. A pile's meaning is these, one in the other.
-use Rattle.std.specs.Prelude.{List}
+use Rattle.std.specs.Prelude.{List, Some, None, Option}
 use Rattle.samples.specs.declared.kinds.AirSample.{AirSample}
 use Rattle.samples.specs.declared.kinds.WorkingSample.{WorkingSample}
 use Rattle.source.specs.Streams.{Stream}
-use Rattle.stages.specs.Clock.{clocked, clocked_on}
+use Rattle.stages.specs.Clock.{outputs, outputs_on}
 use Rattle.stages.specs.Noise.{noise}
 use Rattle.stages.specs.Wholes.{each, remade, held, led, paired, kept_before}
 use Rattle.stages.specs.declared.clock.Clock.{Clock}
 use Rattle.stages.specs.declared.each.Each.{Each}
 use Rattle.stages.specs.declared.held.Held.{Held}
 use Rattle.stages.specs.declared.lead.Lead.{Lead}
+use Rattle.stages.specs.declared.line.Line.{Line}
 use Rattle.stages.specs.declared.noise.Noise.{Noise}
 use Rattle.stages.specs.declared.pairing.Pairing.{Pairing}
 use Rattle.stages.specs.declared.scan.Scan.{Scan}
@@ -45,10 +46,10 @@ scan_left makes left s = remade (makes s.memory) (left s.below)
 
 -- a lead: all copies, and the copies that remain
 abbrev pub lead_whole : {S T : Type 0} → (S → Stream T) → Lead S T → Stream T
-lead_whole whole s = led s.copies s.item (whole s.below)
+lead_whole whole s = led s.copies.times s.copies.item (whole s.below)
 
 abbrev pub lead_left : {S T : Type 0} → (S → Stream T) → Lead S T → Stream T
-lead_left left s = led s.remaining s.item (left s.below)
+lead_left left s = led s.copies.remaining s.copies.item (left s.below)
 
 -- a pairing
 abbrev pub pairing_whole : {A B T U : Type 0} → (A → Stream T) → (B → Stream U) → Pairing A B T → Stream (T × U)
@@ -58,9 +59,18 @@ pairing_whole whole whole' s = paired (whole s.first) (whole' s.second)
 abbrev pub pairing_left : {A B T U : Type 0} → (A → Stream T) → (B → Stream U) → Pairing A B T → Stream (T × U)
 pairing_left left left' s = paired (kept_before s.kept (left s.first)) (left' s.second)
 
+-- what a line makes from its start, and from where it stands; without a line everything passes
+abbrev pub line_whole : Option Line → Stream WorkingSample → Stream WorkingSample
+line_whole None s = s
+line_whole (Some l) s = remade (outputs l.step) s
+
+abbrev pub line_left : Option Line → Stream WorkingSample → Stream WorkingSample
+line_left None s = s
+line_left (Some l) s = remade (outputs_on l) s
+
 -- a clock offset: from the start, and from where its line stands
 abbrev pub clock_whole : {S : Type 0} → (S → Stream WorkingSample) → Clock S → Stream WorkingSample
-clock_whole whole s = clocked s.bypassed s.line.step (whole s.below)
+clock_whole whole s = line_whole s.line (whole s.below)
 
 abbrev pub clock_left : {S : Type 0} → (S → Stream WorkingSample) → Clock S → Stream WorkingSample
-clock_left left s = clocked_on s.bypassed s.line (left s.below)
+clock_left left s = line_left s.line (left s.below)

@@ -1,8 +1,7 @@
 -- Noise: two generators of 32 bits, one a part.
-use Rattle.std.specs.Prelude.{ℕ, zero, suc, ◌+◌, ◌*◌, ◌/◌, ◌%◌, ◌^◌, ℤ, pos, ◌-ℤ◌, ◌*ℤ◌, bit_xor, count_ones}
+use Rattle.std.specs.Prelude.{ℕ, zero, suc, ◌+◌, ◌*◌, ◌/◌, ◌%◌, ◌^◌, ℤ, pos, ◌-ℤ◌, ◌*ℤ◌, bit_xor, count_ones, Ok}
 use Rattle.samples.specs.declared.kinds.AirSample.{AirSample}
 use Rattle.source.specs.Streams.{Stream, tabulate}
-use Rattle.source.specs.declared.fault.Ending.TheVariants.{Finished}
 
 -- v xor (v << k), bits above 31 dropped
 abbrev pub mixed_up : ℕ → ℕ → ℕ
@@ -31,4 +30,4 @@ noise_item re im k = record { re = level (steps (k + 1) re); im = level (steps (
 
 -- n items from the states re and im on, finished
 abbrev pub noise : ℕ → ℕ → ℕ → Stream AirSample
-noise n re im = record { items = tabulate (noise_item re im) 0 n; ending = Finished }
+noise n re im = record { items = tabulate (noise_item re im) 0 n; ending = Ok tt }

@@ -1,8 +1,6 @@
 -- The whole of a stage from the wholes below it.
-use Rattle.std.specs.Prelude.{ℕ, cond, List, [], ◌∷◌, ◌++◌, map, length, replicate, Some, None, Option, nat_le}
-use Rattle.source.specs.Streams.{Stream}
-use Rattle.source.specs.declared.fault.Ending.{Ending}
-use Rattle.source.specs.declared.fault.Ending.TheVariants.{Finished}
+use Rattle.std.specs.Prelude.{ℕ, cond, List, [], ◌∷◌, ◌++◌, map, length, replicate, Some, None, Option, nat_le, Ok}
+use Rattle.source.specs.Streams.{Ending, Stream}
 
 -- item k is f of item k below
 abbrev pub each : {A B : Type 0} → (A → B) → Stream A → Stream B
@@ -14,7 +12,7 @@ remade f s = record { items = f s.items; ending = s.ending }
 
 -- n times one item, finished
 abbrev pub held : {T : Type 0} → ℕ → T → Stream T
-held n x = record { items = replicate n x; ending = Finished }
+held n x = record { items = replicate n x; ending = Ok tt }
 
 -- n copies of an item, then everything below; the ending is the one below
 abbrev pub led : {T : Type 0} → ℕ → T → Stream T → Stream T

@@ -1,7 +1,10 @@
 // A clock offset: the receiver's clock runs a little faster or slower, so its samples stand between those below.
 ghost use Rattle.std.specs.Prelude.{◌≡◌, ◌-◌, ◌^◌, ◌<◌, ◌≤◌, List, ◌∷◌, pos, ◌+ℤ◌, nat_le};
+ghost use Rattle.samples.specs.Kinds.{silent};
 ghost use Rattle.samples.specs.declared.kinds.WorkingSample.{WorkingSample as Working};
-ghost use Rattle.stages.specs.Clock.{clock_step, silence, outputs_on, clocked, ExistsExactly};
+ghost use Rattle.source.specs.Streams.{answer, rest};
+ghost use Rattle.stages.specs.Clock.{clock_step, outputs_on, clocked, ExistsExactly};
+ghost use Rattle.stages.specs.Wholes.{remade};
 ghost use Rattle.stages.specs.Meanings.{clock_whole, clock_left};
 
 use crate::clock_offset::ClockOffset;
@@ -14,34 +17,31 @@ use source::source::Source;
 // One item below, in the units of a position.
 const ITEM: u64 = 0x20_0000_0000_0000;
 
-const SILENCE: WorkingSample = WorkingSample { re: 0, im: 0 };
-
 impl Line {
     // The line before the first item, where every sample is 0. The first output stands at the first item.
-    fn start(offset: ClockOffset) -> Self
-        ensures step { result.step ≡ clock_step offset.c }
-        ensures before { result.before ≡ silence }
-        ensures last { result.last ≡ silence }
+    fn start(step: u64) -> Self
+        requires { (0 < step) × (step ≤ 2 ^ 54) }
+        ensures step { result.step ≡ step }
+        ensures before { result.before ≡ silent }
+        ensures last { result.last ≡ silent }
         ensures position { result.position ≡ 2 ^ 53 }
     {
         Line {
-            before: SILENCE,
-            last: SILENCE,
+            before: WorkingSample::SILENCE,
+            last: WorkingSample::SILENCE,
             position: ITEM,
-            step: (ITEM as i64 + offset.c) as u64,
+            step,
         }
     }
 
     // Back to before the first item.
     fn restart(&mut self)
         ensures step { self.new.step ≡ self.old.step }
-        ensures before { self.new.before ≡ silence }
-        ensures last { self.new.last ≡ silence }
+        ensures before { self.new.before ≡ silent }
+        ensures last { self.new.last ≡ silent }
         ensures position { self.new.position ≡ 2 ^ 53 }
     {
-        self.before = SILENCE;
-        self.last = SILENCE;
-        self.position = ITEM;
+        *self = Line::start(self.step);
     }
 
     // Whether the next output stands past the last item drawn.
@@ -73,31 +73,50 @@ impl Line {
         self.position += self.step;
         y
     }
+
+    // The next output over the items below. The line is drawn on only as far as the output needs: at most two items, none
+    // early. An ending met on the way leaves the line as it stands, so the next call asks again.
+    fn next_output<S: Source<Item = WorkingSample>>(
+        &mut self,
+        below: &mut S,
+    ) -> Result<Option<WorkingSample>, Fault>
+        ensures answers { result ≡ answer (remade (outputs_on self.old) (S.Source.left below.old)) }
+        ensures moves { remade (outputs_on self.new) (S.Source.left below.new) ≡ rest (remade (outputs_on self.old) (S.Source.left below.old)) }
+        ensures same { S.Source.whole below.new ≡ S.Source.whole below.old }
+        ensures step { self.new.step ≡ self.old.step }
+    {
+        while self.wants_item() {
+            let Some(x) = below.next()? else {
+                return Ok(None);
+            };
+            self.draw(x);
+        }
+        Ok(Some(self.output()))
+    }
 }
 
-// The line is drawn on only as far as the next output needs: at most two items for an output, none early. An ending met
-// on the way leaves the line as it stands, so the next call asks again.
 #[derive(Drop)]
 pub struct Clock<S> {
-    bypassed: bool,
-    line: Line,
+    // None where the clock is bypassed.
+    line: Option<Line>,
     below: S,
 }
 
 impl<S: Source<Item = WorkingSample>> Clock<S> {
     // Output m stands at position m × (2^53 + c), in units of 2^-53 of an item below. Bypassed, the items below pass.
     pub fn new(bypassed: bool, offset: ClockOffset, mut below: S) -> Self
-        ensures whole { clock_whole S.Source.whole result ≡ clocked bypassed (clock_step offset.c) (S.Source.whole below) }
-        ensures left { clock_left S.Source.left result ≡ clocked bypassed (clock_step offset.c) (S.Source.whole below) }
+        ensures whole { ⟦<Self as Source>⟧.whole result ≡ clocked bypassed (clock_step offset.c) (S.Source.whole below) }
+        ensures left { ⟦<Self as Source>⟧.left result ≡ clocked bypassed (clock_step offset.c) (S.Source.whole below) }
         ensures step { pos (clock_step offset.c) ≡ pos (2 ^ 53) +ℤ offset.c }
         ensures exists { ExistsExactly (clock_step offset.c) }
     {
         below.rewind();
-        Clock {
-            bypassed,
-            line: Line::start(offset),
-            below,
-        }
+        let line = if bypassed {
+            None
+        } else {
+            Some(Line::start((ITEM as i64 + offset.c) as u64))
+        };
+        Clock { line, below }
     }
 }
 
@@ -109,20 +128,16 @@ impl<S: Source<Item = WorkingSample>> Source for Clock<S> {
     ghost left = { clock_left S.Source.left };
 
     fn next(&mut self) -> Result<Option<WorkingSample>, Fault> {
-        if self.bypassed {
-            return self.below.next();
+        match &mut self.line {
+            Some(line) => line.next_output(&mut self.below),
+            None => self.below.next(),
         }
-        while self.line.wants_item() {
-            match self.below.next()? {
-                Some(x) => self.line.draw(x),
-                None => return Ok(None),
-            }
-        }
-        Ok(Some(self.line.output()))
     }
 
     fn rewind(&mut self) {
         self.below.rewind();
-        self.line.restart();
+        if let Some(line) = &mut self.line {
+            line.restart();
+        }
     }
 }

@@ -30,8 +30,8 @@ impl<S: Source, M: Mapping<From = S::Item>> Each<S, M> {
         ensures mapping { result.mapping ≡ mapping }
         ensures whole { S.Source.whole result.below ≡ S.Source.whole below }
         ensures left { S.Source.left result.below ≡ S.Source.whole below }
-        ensures makes { each_whole M.Mapping.formula S.Source.whole result ≡ each (M.Mapping.formula mapping) (S.Source.whole below) }
-        ensures remains { each_left M.Mapping.formula S.Source.left result ≡ each (M.Mapping.formula mapping) (S.Source.whole below) }
+        ensures makes { ⟦<Self as Source>⟧.whole result ≡ each (M.Mapping.formula mapping) (S.Source.whole below) }
+        ensures remains { ⟦<Self as Source>⟧.left result ≡ each (M.Mapping.formula mapping) (S.Source.whole below) }
     {
         below.rewind();
         Each { below, mapping }
@@ -41,15 +41,13 @@ impl<S: Source, M: Mapping<From = S::Item>> Each<S, M> {
 impl<S: Source, M: Mapping<From = S::Item>> Source for Each<S, M> {
     type Item = M::To;
 
-    ghost whole = { λ s. each (M.Mapping.formula s.mapping) (S.Source.whole s.below) };
+    ghost whole = { each_whole M.Mapping.formula S.Source.whole };
 
-    ghost left = { λ s. each (M.Mapping.formula s.mapping) (S.Source.left s.below) };
+    ghost left = { each_left M.Mapping.formula S.Source.left };
 
     fn next(&mut self) -> Result<Option<M::To>, Fault> {
-        match self.below.next()? {
-            Some(x) => Ok(Some(self.mapping.apply(x))),
-            None => Ok(None),
-        }
+        let x = self.below.next()?;
+        Ok(x.map(|x| self.mapping.apply(x)))
     }
 
     fn rewind(&mut self) {

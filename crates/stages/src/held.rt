@@ -17,8 +17,8 @@ pub struct Held<T> {
 impl<T: Copy> Held<T> {
     // The item `times` times, 0 to 2^32 - 1.
     pub fn new(item: T, times: u32) -> Self
-        ensures whole { held_whole result ≡ held times item }
-        ensures left { held_left result ≡ held times item }
+        ensures whole { ⟦<Self as Source>⟧.whole result ≡ held times item }
+        ensures left { ⟦<Self as Source>⟧.left result ≡ held times item }
     {
         Held {
             item,

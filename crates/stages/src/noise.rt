@@ -31,15 +31,16 @@ pub struct Noise {
     // The generators' states, one a part.
     re: u32,
     im: u32,
-    // How many samples are still to be handed out, at most `count`.
+    // How many samples are still to be handed out, at most `count`. It counts down by itself, as a held item does: sharing
+    // one comparison and one subtraction would be no plainer.
     remaining: u32,
 }
 
 impl Noise {
     // `count` samples, 0 to 2^32 - 1.
     pub fn new(seeds: Seeds, count: u32) -> Self
-        ensures whole { noise_whole result ≡ noise count seeds.re seeds.im }
-        ensures left { noise_left result ≡ noise count seeds.re seeds.im }
+        ensures whole { ⟦<Self as Source>⟧.whole result ≡ noise count seeds.re seeds.im }
+        ensures left { ⟦<Self as Source>⟧.left result ≡ noise count seeds.re seeds.im }
     {
         Noise {
             seeds,

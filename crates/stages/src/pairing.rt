@@ -17,8 +17,8 @@ pub struct Pairing<A: Source, B> {
 impl<A: Source, B: Source> Pairing<A, B> {
     // Pairs as long as both sources last.
     pub fn new(mut first: A, mut second: B) -> Self
-        ensures whole { pairing_whole A.Source.whole B.Source.whole result ≡ paired (A.Source.whole first) (B.Source.whole second) }
-        ensures left { pairing_left A.Source.left B.Source.left result ≡ paired (A.Source.whole first) (B.Source.whole second) }
+        ensures whole { ⟦<Self as Source>⟧.whole result ≡ paired (A.Source.whole first) (B.Source.whole second) }
+        ensures left { ⟦<Self as Source>⟧.left result ≡ paired (A.Source.whole first) (B.Source.whole second) }
     {
         first.rewind();
         second.rewind();
@@ -38,21 +38,17 @@ impl<A: Source, B: Source> Source for Pairing<A, B> {
     ghost left = { pairing_left A.Source.left B.Source.left };
 
     fn next(&mut self) -> Result<Option<(A::Item, B::Item)>, Fault> {
-        let x = match self.kept {
-            Some(x) => x,
-            None => match self.first.next()? {
-                Some(x) => x,
-                None => return Ok(None),
-            },
-        };
-        self.kept = Some(x);
-        match self.second.next()? {
-            Some(y) => {
-                self.kept = None;
-                Ok(Some((x, y)))
-            }
-            None => Ok(None),
+        if self.kept.is_none() {
+            self.kept = self.first.next()?;
         }
+        let Some(x) = self.kept else {
+            return Ok(None);
+        };
+        let Some(y) = self.second.next()? else {
+            return Ok(None);
+        };
+        self.kept = None;
+        Ok(Some((x, y)))
     }
 
     fn rewind(&mut self) {

@@ -1,4 +1,5 @@
-// A stage with a memory: one item out for one item in, made of it and of what went before.
+// A stage with a memory: one item out for one item in, made of it and of what went before. Beside Each, as a mapping is
+// asked by `&self` and has a formula of one item, and a memory changes.
 ghost use Rattle.std.specs.Prelude.{◌≡◌, List, [], ◌∷◌};
 ghost use Rattle.stages.specs.Meanings.{scan_whole, scan_left};
 ghost use Rattle.stages.specs.Wholes.{remade};
@@ -40,8 +41,8 @@ impl<S: Source, M: Memory<From = S::Item>> Scan<S, M> {
         ensures starts { M.Memory.makes result.memory ≡ M.Memory.fresh memory }
         ensures whole { S.Source.whole result.below ≡ S.Source.whole below }
         ensures left { S.Source.left result.below ≡ S.Source.whole below }
-        ensures makes { scan_whole M.Memory.fresh S.Source.whole result ≡ remade (M.Memory.fresh memory) (S.Source.whole below) }
-        ensures remains { scan_left M.Memory.makes S.Source.left result ≡ remade (M.Memory.fresh memory) (S.Source.whole below) }
+        ensures makes { ⟦<Self as Source>⟧.whole result ≡ remade (M.Memory.fresh memory) (S.Source.whole below) }
+        ensures remains { ⟦<Self as Source>⟧.left result ≡ remade (M.Memory.fresh memory) (S.Source.whole below) }
     {
         below.rewind();
         memory.reset();
@@ -52,11 +53,12 @@ impl<S: Source, M: Memory<From = S::Item>> Scan<S, M> {
 impl<S: Source, M: Memory<From = S::Item>> Source for Scan<S, M> {
     type Item = M::To;
 
-    ghost whole = { λ s. remade (M.Memory.fresh s.memory) (S.Source.whole s.below) };
+    ghost whole = { scan_whole M.Memory.fresh S.Source.whole };
 
-    ghost left = { λ s. remade (M.Memory.makes s.memory) (S.Source.left s.below) };
+    ghost left = { scan_left M.Memory.makes S.Source.left };
 
     fn next(&mut self) -> Result<Option<M::To>, Fault> {
+        // Not `map`: after it nothing is known of a memory that the closure changed.
         match self.below.next()? {
             Some(x) => Ok(Some(self.memory.step(x))),
             None => Ok(None),

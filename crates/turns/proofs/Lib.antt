@@ -1,3 +1,2 @@
 pub mod Interpolations
 pub mod PhaseSteps
-pub mod Turning

@@ -6,10 +6,6 @@ use Rattle.samples.specs.Phases.{modulo}
 use Rattle.samples.specs.declared.kinds.WorkingSample.{WorkingSample}
 use Rattle.turns.specs.Frequency.{indexed, phase_at, turned_to, frequency_offset}
 
-pub modulo_below : (z : ℤ) → modulo z (2 ^ 48) < 2 ^ 48
-modulo_below (pos a) = omega arith
-modulo_below (negsuc a) = omega arith
-
 -- how many turns are left out
 turns : ℤ → ℤ
 turns (pos a) = neg_ℤ (pos (a / 2 ^ 48))

@@ -1,7 +1,7 @@
 -- The amplifier: amplitude and phase by the magnitude of the sample, from a table of 513 entries.
-use Rattle.std.specs.Prelude.{ℕ, zero, suc, ◌+◌, ◌-◌, ◌*◌, ◌/◌, min, List, ℤ, pos, ◌+ℤ◌, ◌-ℤ◌, ◌*ℤ◌, slice_index_or, unsigned_abs}
+use Rattle.std.specs.Prelude.{ℕ, zero, suc, ◌+◌, ◌-◌, ◌*◌, ◌/◌, min, List, ℤ, pos, ◌*ℤ◌, slice_index_or, unsigned_abs}
 use Rattle.std.proofs.Common.{arith}
-use Rattle.samples.specs.Arithmetic.{floor_by}
+use Rattle.samples.specs.Interpolation.{linear}
 use Rattle.samples.specs.Phases.{index_16}
 use Rattle.samples.specs.Phasors.{phasor_of}
 use Rattle.samples.specs.Roots.{root}
@@ -20,7 +20,7 @@ magnitude x = min (root (power x)) 32768
 -- a + floor ((b - a) × r / 64); at r = 0 only a counts
 unfoldable pub interpolated : ℤ → ℤ → ℕ → ℤ
 interpolated a b zero = a
-interpolated a b (suc r) = a +ℤ floor_by ((b -ℤ a) *ℤ pos (suc r)) 64
+interpolated a b (suc r) = linear a b (suc r) 6
 
 -- where the table has no entry
 pub no_entry : Entry

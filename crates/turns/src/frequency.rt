@@ -4,14 +4,14 @@ ghost use Rattle.samples.specs.Phases.{modulo};
 ghost use Rattle.turns.specs.Frequency.{frequency_offset, turned_to};
 ghost use Rattle.std.proofs.Common.{rules, arith};
 
-use crate::turn::turn;
-use samples::arithmetic::floor_shift;
+use samples::complex::product;
 use samples::kinds::WorkingSample;
 use samples::phasor::{index_48, phasor};
 use samples::sample::Sample;
 use stages::scan::Memory;
 
 // It turns by `f` from sample to sample and stands at `phase`, both 2^48 a turn.
+// Not the setting of this name: it turns by any f.
 #[derive(Clone, Copy, PartialEq, Eq, Debug)]
 pub struct FrequencyOffset {
     f: i64,
@@ -23,16 +23,15 @@ pub struct FrequencyOffset {
 fn next_phase(phase: u64, f: i64) -> u64
     ensures { result ≡ modulo (pos phase -ℤ f) (2 ^ 48) }
 {
-    phase.wrapping_sub(f.cast_unsigned()) % (1 << 48)
+    phase.wrapping_sub_signed(f) % (1 << 48)
 }
 
 // A sample turned by the phasor of a phase, each part rounded down after division by 2^14, then clipped.
 fn turn_to(phase: u64, x: WorkingSample) -> WorkingSample
     ensures { result ≡ turned_to phase x }
 {
-    let (cosine, sine) = phasor(index_48(phase));
-    let (re, im) = turn(x, cosine, sine);
-    <WorkingSample as Sample>::new(floor_shift(re, 14), floor_shift(im, 14))
+    let (re, im) = product((x.re, x.im), phasor(index_48(phase)));
+    WorkingSample::divided(re, im, 14)
 }
 
 impl FrequencyOffset {

@@ -9,4 +9,3 @@ pub mod entry;
 pub mod frequency;
 mod root;
 pub mod table;
-mod turn;

@@ -31,7 +31,8 @@ const ROOTS: [u32; 257] = [
     1034140, 1036215, 1038285, 1040351, 1042413, 1044471, 1046525, 1048576,
 ];
 
-// 65536 times the number that lies `part` of 65536 parts of the way from a to b.
+// 65536 times the number that lies `part` of 65536 parts of the way from a to b. Not `linear`: the roots have 21 bits, and
+// nothing is rounded yet.
 fn line(a: u32, b: u32, part: u32) -> u64
     requires { part < 65536 }
     ensures { result < 2 ^ 49 }

@@ -1,19 +1,17 @@
-use Rattle.std.proofs.Common.{◌*ℤ◌, arith, w64, SFits}
+use Rattle.std.proofs.Common.{◌≡◌, ◌^◌, ◌≤◌, ◌*ℤ◌, nat_abs, arith, w32, w64, SFits}
 use Rattle.std.proofs.lemmas.Int.{ints, to_z-of_z}
-use Rattle.impairments.proofs.Products.{product_within}
+use Rattle.samples.specs.Bounds.{Between}
+use Rattle.samples.proofs.Products.{product_between, own_size}
 use Rattle.impairments.proofs.product.times.Goals as goal
 
-pub overflow_mul-result : goal.overflow_mul-result
-overflow_mul-result c =
-    let x : SFits w64 c.args.x = c.ranges.x in
-    let f : SFits w64 c.args.factor = c.ranges.factor in
-    let t = product_within c.args.factor c.args.x c.requires.factor c.requires.part in
-    simp to_z-of_z (omega (arith, ints, t.0, t.1))
-
-pub returns : goal.returns
-returns c =
-    let x : SFits w64 c.args.x = c.ranges.x in
-    let f : SFits w64 c.args.factor = c.ranges.factor in
-    let t = product_within c.args.factor c.args.x c.requires.factor c.requires.part in
-    let r : SFits w64 (c.args.factor *ℤ c.args.x) = omega (arith, ints, t.0, t.1) in
-    record { value = simp to_z-of_z; within = simp to_z-of_z t }
+pub returns-clause-within : goal.returns-clause-within
+returns-clause-within c =
+    let f : SFits w32 c.args.factor = c.ranges.factor in
+    let y : SFits w64 c.from-2.result = record { sfits = c.from-2.type_inv } in
+    let f64 : SFits w64 c.args.factor = omega (arith, ints) in
+    let n : nat_abs c.args.factor ≤ 2 ^ 31 = omega (arith, ints) in
+    let e : c.from.result ≡ c.args.factor = simp to_z-of_z at c.from.ensures in
+    let b : Between (2 ^ 31) c.from-2.result = record { low = omega (arith, ints); high = omega (arith, ints) } in
+    let p = product_between (nat_abs c.args.factor) (2 ^ 31) c.args.factor c.from-2.result (own_size c.args.factor) b in
+    let fits : SFits w64 (c.args.factor *ℤ c.from-2.result) = omega (arith, ints) in
+    simp (e, to_z-of_z) p

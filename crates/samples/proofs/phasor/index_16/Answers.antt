@@ -1,4 +1,4 @@
-use Rattle.std.proofs.Common.{◌≡◌, ◌/◌, ℤ, pos, negsuc, nat_abs, ap, ◌∙◌, arith, w64, SFits, to_z, of_z}
+use Rattle.std.proofs.Common.{◌≡◌, ℤ, pos, negsuc, nat_abs, ap, arith, w64, SFits, to_z, of_z}
 use lib.Signed.{quot_z}
 use Rattle.std.proofs.lemmas.Int.{to_z_pos, to_z-of_z}
 use Rattle.std.specs.Int.{int_rem_euclid}

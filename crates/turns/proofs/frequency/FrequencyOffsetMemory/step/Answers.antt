@@ -1,11 +1,8 @@
 use Rattle.std.proofs.Common.{◌≡◌, ◌^◌, pos, ◌-ℤ◌, refl, w64, SFits, rules}
 use Rattle.std.proofs.lemmas.Int.{to_z-of_z}
 use Rattle.samples.specs.Phases.{modulo}
-use Rattle.turns.proofs.PhaseSteps.{modulo_below, offset_step}
+use Rattle.turns.proofs.PhaseSteps.{offset_step}
 use Rattle.turns.proofs.frequency.FrequencyOffsetMemory.step.Goals as goal
-
-pub invariant_of-self : goal.invariant_of-self
-invariant_of-self c = record { phase_within = rw c.next_phase-self.ensures (modulo_below _) }
 
 pub returns : goal.returns
 returns c =
