@@ -23,7 +23,7 @@ use stages::pairing::Pairing;
 use stages::scan::Scan;
 
 // How many items of noise there are.
-const NOISE_ITEMS: u32 = 0xffff_ffff;
+const NOISE_ITEMS: u32 = u32::MAX;
 
 // The signal on the air, without noise.
 type Sent<S> = Each<Clock<Scan<Each<S, Transmitter>, Propagation>>, ChannelGain>;

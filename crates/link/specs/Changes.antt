@@ -32,315 +32,60 @@ balance a b c = record { a = a; b = b; c = c }
 
 -- the scale factor changed
 abbrev pub with_scale : Scale → Settings → Settings
-with_scale new s =
-    record {
-      scale = new;
-      tx_dc = s.tx_dc;
-      tx_imbalance = s.tx_imbalance;
-      amplifier = s.amplifier;
-      amplifier_bypass = s.amplifier_bypass;
-      paths = s.paths;
-      frequency = s.frequency;
-      clock = s.clock;
-      clock_bypass = s.clock_bypass;
-      gain = s.gain;
-      seeds = s.seeds;
-      receive_gains = s.receive_gains;
-      lead = s.lead;
-      rx_dc = s.rx_dc;
-      rx_imbalance = s.rx_imbalance;
-    }
+with_scale new s = record s { scale = new }
 
 -- the transmitter's DC offset changed
 abbrev pub with_tx_dc : Offset → Settings → Settings
-with_tx_dc new s =
-    record {
-      scale = s.scale;
-      tx_dc = new;
-      tx_imbalance = s.tx_imbalance;
-      amplifier = s.amplifier;
-      amplifier_bypass = s.amplifier_bypass;
-      paths = s.paths;
-      frequency = s.frequency;
-      clock = s.clock;
-      clock_bypass = s.clock_bypass;
-      gain = s.gain;
-      seeds = s.seeds;
-      receive_gains = s.receive_gains;
-      lead = s.lead;
-      rx_dc = s.rx_dc;
-      rx_imbalance = s.rx_imbalance;
-    }
+with_tx_dc new s = record s { tx_dc = new }
 
 -- the transmitter's imbalance changed
 abbrev pub with_tx_imbalance : Balance → Settings → Settings
-with_tx_imbalance new s =
-    record {
-      scale = s.scale;
-      tx_dc = s.tx_dc;
-      tx_imbalance = new;
-      amplifier = s.amplifier;
-      amplifier_bypass = s.amplifier_bypass;
-      paths = s.paths;
-      frequency = s.frequency;
-      clock = s.clock;
-      clock_bypass = s.clock_bypass;
-      gain = s.gain;
-      seeds = s.seeds;
-      receive_gains = s.receive_gains;
-      lead = s.lead;
-      rx_dc = s.rx_dc;
-      rx_imbalance = s.rx_imbalance;
-    }
+with_tx_imbalance new s = record s { tx_imbalance = new }
 
 -- the amplifier's table changed
 abbrev pub with_amplifier : AmplifierTable → Settings → Settings
-with_amplifier new s =
-    record {
-      scale = s.scale;
-      tx_dc = s.tx_dc;
-      tx_imbalance = s.tx_imbalance;
-      amplifier = new;
-      amplifier_bypass = s.amplifier_bypass;
-      paths = s.paths;
-      frequency = s.frequency;
-      clock = s.clock;
-      clock_bypass = s.clock_bypass;
-      gain = s.gain;
-      seeds = s.seeds;
-      receive_gains = s.receive_gains;
-      lead = s.lead;
-      rx_dc = s.rx_dc;
-      rx_imbalance = s.rx_imbalance;
-    }
+with_amplifier new s = record s { amplifier = new }
 
 -- the amplifier's bypass switch changed
 abbrev pub with_amplifier_bypass : Bool → Settings → Settings
-with_amplifier_bypass new s =
-    record {
-      scale = s.scale;
-      tx_dc = s.tx_dc;
-      tx_imbalance = s.tx_imbalance;
-      amplifier = s.amplifier;
-      amplifier_bypass = new;
-      paths = s.paths;
-      frequency = s.frequency;
-      clock = s.clock;
-      clock_bypass = s.clock_bypass;
-      gain = s.gain;
-      seeds = s.seeds;
-      receive_gains = s.receive_gains;
-      lead = s.lead;
-      rx_dc = s.rx_dc;
-      rx_imbalance = s.rx_imbalance;
-    }
+with_amplifier_bypass new s = record s { amplifier_bypass = new }
 
 -- the paths changed
 abbrev pub with_paths : Paths → Settings → Settings
-with_paths new s =
-    record {
-      scale = s.scale;
-      tx_dc = s.tx_dc;
-      tx_imbalance = s.tx_imbalance;
-      amplifier = s.amplifier;
-      amplifier_bypass = s.amplifier_bypass;
-      paths = new;
-      frequency = s.frequency;
-      clock = s.clock;
-      clock_bypass = s.clock_bypass;
-      gain = s.gain;
-      seeds = s.seeds;
-      receive_gains = s.receive_gains;
-      lead = s.lead;
-      rx_dc = s.rx_dc;
-      rx_imbalance = s.rx_imbalance;
-    }
+with_paths new s = record s { paths = new }
 
 -- the frequency offset changed
 abbrev pub with_frequency : FrequencyOffset → Settings → Settings
-with_frequency new s =
-    record {
-      scale = s.scale;
-      tx_dc = s.tx_dc;
-      tx_imbalance = s.tx_imbalance;
-      amplifier = s.amplifier;
-      amplifier_bypass = s.amplifier_bypass;
-      paths = s.paths;
-      frequency = new;
-      clock = s.clock;
-      clock_bypass = s.clock_bypass;
-      gain = s.gain;
-      seeds = s.seeds;
-      receive_gains = s.receive_gains;
-      lead = s.lead;
-      rx_dc = s.rx_dc;
-      rx_imbalance = s.rx_imbalance;
-    }
+with_frequency new s = record s { frequency = new }
 
 -- the clock offset changed
 abbrev pub with_clock : ClockOffset → Settings → Settings
-with_clock new s =
-    record {
-      scale = s.scale;
-      tx_dc = s.tx_dc;
-      tx_imbalance = s.tx_imbalance;
-      amplifier = s.amplifier;
-      amplifier_bypass = s.amplifier_bypass;
-      paths = s.paths;
-      frequency = s.frequency;
-      clock = new;
-      clock_bypass = s.clock_bypass;
-      gain = s.gain;
-      seeds = s.seeds;
-      receive_gains = s.receive_gains;
-      lead = s.lead;
-      rx_dc = s.rx_dc;
-      rx_imbalance = s.rx_imbalance;
-    }
+with_clock new s = record s { clock = new }
 
 -- the clock's bypass switch changed
 abbrev pub with_clock_bypass : Bool → Settings → Settings
-with_clock_bypass new s =
-    record {
-      scale = s.scale;
-      tx_dc = s.tx_dc;
-      tx_imbalance = s.tx_imbalance;
-      amplifier = s.amplifier;
-      amplifier_bypass = s.amplifier_bypass;
-      paths = s.paths;
-      frequency = s.frequency;
-      clock = s.clock;
-      clock_bypass = new;
-      gain = s.gain;
-      seeds = s.seeds;
-      receive_gains = s.receive_gains;
-      lead = s.lead;
-      rx_dc = s.rx_dc;
-      rx_imbalance = s.rx_imbalance;
-    }
+with_clock_bypass new s = record s { clock_bypass = new }
 
 -- the channel's gain changed
 abbrev pub with_gain : Gain → Settings → Settings
-with_gain new s =
-    record {
-      scale = s.scale;
-      tx_dc = s.tx_dc;
-      tx_imbalance = s.tx_imbalance;
-      amplifier = s.amplifier;
-      amplifier_bypass = s.amplifier_bypass;
-      paths = s.paths;
-      frequency = s.frequency;
-      clock = s.clock;
-      clock_bypass = s.clock_bypass;
-      gain = new;
-      seeds = s.seeds;
-      receive_gains = s.receive_gains;
-      lead = s.lead;
-      rx_dc = s.rx_dc;
-      rx_imbalance = s.rx_imbalance;
-    }
+with_gain new s = record s { gain = new }
 
 -- the seeds of the noise changed
 abbrev pub with_seeds : Seeds → Settings → Settings
-with_seeds new s =
-    record {
-      scale = s.scale;
-      tx_dc = s.tx_dc;
-      tx_imbalance = s.tx_imbalance;
-      amplifier = s.amplifier;
-      amplifier_bypass = s.amplifier_bypass;
-      paths = s.paths;
-      frequency = s.frequency;
-      clock = s.clock;
-      clock_bypass = s.clock_bypass;
-      gain = s.gain;
-      seeds = new;
-      receive_gains = s.receive_gains;
-      lead = s.lead;
-      rx_dc = s.rx_dc;
-      rx_imbalance = s.rx_imbalance;
-    }
+with_seeds new s = record s { seeds = new }
 
 -- one of the receive gains changed, and the other 127 as they were
 abbrev pub with_receive_gain : ℕ → Gain → Settings → Settings
-with_receive_gain index new s =
-    record {
-      scale = s.scale;
-      tx_dc = s.tx_dc;
-      tx_imbalance = s.tx_imbalance;
-      amplifier = s.amplifier;
-      amplifier_bypass = s.amplifier_bypass;
-      paths = s.paths;
-      frequency = s.frequency;
-      clock = s.clock;
-      clock_bypass = s.clock_bypass;
-      gain = s.gain;
-      seeds = s.seeds;
-      receive_gains = slice_set s.receive_gains index new;
-      lead = s.lead;
-      rx_dc = s.rx_dc;
-      rx_imbalance = s.rx_imbalance;
-    }
+with_receive_gain index new s = record s { receive_gains = slice_set s.receive_gains index new }
 
 -- the lead of the gain indices changed
 abbrev pub with_lead : ℕ → Settings → Settings
-with_lead new s =
-    record {
-      scale = s.scale;
-      tx_dc = s.tx_dc;
-      tx_imbalance = s.tx_imbalance;
-      amplifier = s.amplifier;
-      amplifier_bypass = s.amplifier_bypass;
-      paths = s.paths;
-      frequency = s.frequency;
-      clock = s.clock;
-      clock_bypass = s.clock_bypass;
-      gain = s.gain;
-      seeds = s.seeds;
-      receive_gains = s.receive_gains;
-      lead = new;
-      rx_dc = s.rx_dc;
-      rx_imbalance = s.rx_imbalance;
-    }
+with_lead new s = record s { lead = new }
 
 -- the receiver's DC offset changed
 abbrev pub with_rx_dc : Offset → Settings → Settings
-with_rx_dc new s =
-    record {
-      scale = s.scale;
-      tx_dc = s.tx_dc;
-      tx_imbalance = s.tx_imbalance;
-      amplifier = s.amplifier;
-      amplifier_bypass = s.amplifier_bypass;
-      paths = s.paths;
-      frequency = s.frequency;
-      clock = s.clock;
-      clock_bypass = s.clock_bypass;
-      gain = s.gain;
-      seeds = s.seeds;
-      receive_gains = s.receive_gains;
-      lead = s.lead;
-      rx_dc = new;
-      rx_imbalance = s.rx_imbalance;
-    }
+with_rx_dc new s = record s { rx_dc = new }
 
 -- the receiver's imbalance changed
 abbrev pub with_rx_imbalance : Balance → Settings → Settings
-with_rx_imbalance new s =
-    record {
-      scale = s.scale;
-      tx_dc = s.tx_dc;
-      tx_imbalance = s.tx_imbalance;
-      amplifier = s.amplifier;
-      amplifier_bypass = s.amplifier_bypass;
-      paths = s.paths;
-      frequency = s.frequency;
-      clock = s.clock;
-      clock_bypass = s.clock_bypass;
-      gain = s.gain;
-      seeds = s.seeds;
-      receive_gains = s.receive_gains;
-      lead = s.lead;
-      rx_dc = s.rx_dc;
-      rx_imbalance = new;
-    }
+with_rx_imbalance new s = record s { rx_imbalance = new }

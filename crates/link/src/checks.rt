@@ -1,10 +1,11 @@
-// From plain numbers to the records that carry their ranges, or to a refusal.
+// From plain numbers to the records that carry their ranges, or to a refusal. Functions, not TryFrom: most take several
+// numbers, and the records stand in the crates below.
 ghost use Rattle.std.specs.Prelude.{◌≡◌, ◌≤◌, OnOk};
 ghost use Rattle.link.specs.Checks.{checked_scale, checked_gain, checked_clock, checked_frequency, checked_seeds, checked_receive_gain};
 ghost use Rattle.link.specs.Lists.{checked_paths, checked_table};
 
 use crate::frequency_offset::FrequencyOffset;
-use crate::neutral::{full_entry, neutral_path};
+use crate::neutral::{FULL_ENTRY, NEUTRAL_PATH};
 use crate::paths::RawPath;
 use crate::refusal::SettingRefusal;
 use crate::scale::Scale;
@@ -20,7 +21,7 @@ use turns::table::AmplifierTable;
 pub(crate) fn checked_scale(factor: u16) -> Result<Scale, SettingRefusal>
     ensures { result ≡ checked_scale factor }
 {
-    if factor < 1 || factor > 32767 {
+    if !(1..=32767).contains(&factor) {
         return Err(SettingRefusal::ScaleOutside);
     }
     Ok(Scale { factor })
@@ -30,7 +31,7 @@ pub(crate) fn checked_scale(factor: u16) -> Result<Scale, SettingRefusal>
 pub(crate) fn checked_gain(shift: i16, factor: u16) -> Result<Gain, SettingRefusal>
     ensures { result ≡ checked_gain shift factor }
 {
-    if shift < -32 || shift > 18 || factor < 128 || factor > 255 {
+    if !(-32..=18).contains(&shift) || !(128..=255).contains(&factor) {
         return Err(SettingRefusal::GainOutside);
     }
     Ok(Gain {
@@ -58,7 +59,7 @@ pub(crate) fn checked_receive_gain(
 pub(crate) fn checked_clock(c: i64) -> Result<ClockOffset, SettingRefusal>
     ensures { result ≡ checked_clock c }
 {
-    if c < -9_007_199_254_740 || c > 9_007_199_254_740 {
+    if !(-9_007_199_254_740..=9_007_199_254_740).contains(&c) {
         return Err(SettingRefusal::ClockOutside);
     }
     Ok(ClockOffset { c })
@@ -68,7 +69,7 @@ pub(crate) fn checked_clock(c: i64) -> Result<ClockOffset, SettingRefusal>
 pub(crate) fn checked_frequency(f: i64) -> Result<FrequencyOffset, SettingRefusal>
     ensures { result ≡ checked_frequency f }
 {
-    if f < -140_737_488_355_328 || f > 140_737_488_355_327 {
+    if !(-140_737_488_355_328..=140_737_488_355_327).contains(&f) {
         return Err(SettingRefusal::FrequencyOutside);
     }
     Ok(FrequencyOffset { f })
@@ -90,10 +91,11 @@ pub(crate) fn checked_paths(given: &[RawPath]) -> Result<Paths, SettingRefusal>
     ensures { result ≡ checked_paths given.now }
 {
     let count = given.len();
-    if count < 1 || count > 10 {
+    if !(1..=10).contains(&count) {
         return Err(SettingRefusal::PathOutside { path: 10 });
     }
-    let mut places = [neutral_path(); 10];
+    let mut places = [NEUTRAL_PATH; 10];
+    // The place is counted, since a refusal tells it.
     for (i, p) in given.iter().enumerate() {
         if p.delay > 63 {
             return Err(SettingRefusal::PathOutside { path: i as u8 });
@@ -107,7 +109,7 @@ pub(crate) fn checked_paths(given: &[RawPath]) -> Result<Paths, SettingRefusal>
     Ok(Paths { places, count })
 }
 
-// 513 amplitudes of at most 32767, and 513 phases.
+// 513 amplitudes of at most 32767, and 513 phases. Two lists, not entries: one that is too short or too long is refused.
 pub(crate) fn checked_table(
     amplitudes: &[u16],
     phases: &[i16],
@@ -117,7 +119,8 @@ pub(crate) fn checked_table(
     if amplitudes.len() != 513 || phases.len() != 513 {
         return Err(SettingRefusal::EntryOutside { entry: 513 });
     }
-    let mut entries = [full_entry(); 513];
+    let mut entries = [FULL_ENTRY; 513];
+    // The place is counted, since a refusal tells it; the phase is taken from there too.
     for (i, amplitude) in amplitudes.iter().enumerate() {
         if *amplitude > 32767 {
             return Err(SettingRefusal::EntryOutside { entry: i as u16 });

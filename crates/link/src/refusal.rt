@@ -11,8 +11,10 @@ pub enum SettingRefusal {
     // A gain's shift is outside -32 to 18, or its factor outside 128 to 255.
     GainOutside,
     // There are not 1 to 10 paths (path 10), or this is the first path, from 0, with a delay over 63.
+    // Told as path 10, as the answers number it.
     PathOutside { path: u8 },
     // A list is not 513 long (entry 513), or this is the first entry, from 0, with an amplitude over 32767.
+    // Told as entry 513, as the answers number it.
     EntryOutside { entry: u16 },
     // The clock offset is beyond 9,007,199,254,740, up or down.
     ClockOutside,

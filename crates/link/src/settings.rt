@@ -11,7 +11,7 @@ use crate::checks::{
     checked_scale, checked_seeds, checked_table,
 };
 use crate::frequency_offset::FrequencyOffset;
-use crate::neutral::{full_table, one_path, unit_gain};
+use crate::neutral::{FULL_ENTRY, NEUTRAL_PATH, UNIT_GAIN};
 use crate::paths::RawPath;
 use crate::refusal::SettingRefusal;
 use crate::scale::Scale;
@@ -32,11 +32,13 @@ pub struct Settings {
     pub tx_dc: Offset,
     pub tx_imbalance: Balance,
     pub amplifier: AmplifierTable,
+    // A switch beside, not an Option: left out, the table stays.
     pub amplifier_bypass: bool,
     // Channel.
     pub paths: Paths,
     pub frequency: FrequencyOffset,
     pub clock: ClockOffset,
+    // A switch beside, not an Option: left out, the offset stays.
     pub clock_bypass: bool,
     pub gain: Gain,
     pub seeds: Seeds,
@@ -47,6 +49,7 @@ pub struct Settings {
     pub rx_imbalance: Balance,
 }
 
+// Each call that tests tells in `answers` and `leaves` its own test and the field that it changes.
 impl Settings {
     // The settings to begin with: every factor is 1, nothing is offset, the amplifier and the clock stage are left out.
     pub fn fresh() -> Self
@@ -62,15 +65,20 @@ impl Settings {
             scale: Scale { factor: 256 },
             tx_dc: dc,
             tx_imbalance: balance,
-            amplifier: full_table(),
+            amplifier: AmplifierTable {
+                entries: [FULL_ENTRY; 513],
+            },
             amplifier_bypass: true,
-            paths: one_path(),
+            paths: Paths {
+                places: [NEUTRAL_PATH; 10],
+                count: 1,
+            },
             frequency: FrequencyOffset { f: 0 },
             clock: ClockOffset { c: 0 },
             clock_bypass: true,
-            gain: unit_gain(),
+            gain: UNIT_GAIN,
             seeds: Seeds { re: 1, im: 1 },
-            receive_gains: [unit_gain(); 128],
+            receive_gains: [UNIT_GAIN; 128],
             lead: 0,
             rx_dc: dc,
             rx_imbalance: balance,
@@ -101,7 +109,8 @@ impl Settings {
     }
 
     // The amplifier's table: 513 amplitudes, 0 to 32767, and 513 phases, 65536 a turn. Refusal 4 with an entry: 513 if
-    // a list is not 513 long, else the first whose amplitude is over 32767.
+    // a list is not 513 long, else the first whose amplitude is over 32767. Two lists, not entries: one that is too short
+    // or too long is refused, and entries could not show it.
     pub fn set_amplifier_table(
         &mut self,
         amplitudes: &[u16],

@@ -1,14 +1,10 @@
--- When the ending is answered, and what an answer of `next` says of the items that are left.
-use Rattle.std.proofs.Common.{◌≡◌, ℕ, ◌<◌, ◌≤◌, min, Bool, true, false, eqb, ltb, List, [], ◌∷◌, length, Some, None, Ok, Err, Result, refl, arith}
+-- When the ending is answered, and what an item that `next` answers says of those that are left.
+use Rattle.std.proofs.Common.{◌≡◌, ℕ, ◌<◌, min, Bool, true, false, eqb, ltb, List, [], ◌∷◌, length, Some, None, Ok, Err, arith}
 use Rattle.std.proofs.lemmas.Bool.{and_from, and_left, and_right, lt-ltb, le-ltb, eq-eqb, ne_eqb, cond-true, cond-false}
 use Rattle.std.specs.List.{slice_get}
-use Rattle.source.specs.Streams.{first_of}
-use Rattle.source.specs.declared.fault.Ending.{Ending}
-use Rattle.source.specs.declared.fault.Ending.TheVariants.{Finished, Faulted}
-use Rattle.player.specs.Plain.{player_fault, ending_answer, none_came, answer_of}
-use Rattle.player.specs.Standing.{faults_at, left_to_later}
-use Rattle.player.specs.declared.fault.FaultAt.{FaultAt}
-use Rattle.player.specs.declared.fault.PlayerFault.{PlayerFault}
+use Rattle.source.specs.Streams.{Ending}
+use Rattle.player.specs.Plain.{ending_answer, none_came, answer_of}
+use Rattle.player.specs.Standing.{left_to_later}
 
 module _ (wanted t : ℕ) where
   pub none_came_true : 0 < wanted → t ≡ 0 → none_came wanted t ≡ true
@@ -30,41 +26,14 @@ module _ (wanted t : ℕ) where
     pub answers_unwanted : wanted ≡ 0 → answer_of e p wanted t nothing tells ≡ Ok tells
     answers_unwanted h = cond-false (none_came wanted t) (ending_answer e p nothing) (Ok tells) (none_came_unwanted h)
 
--- a fault with its place, as the player answers it
-abbrev pub placed : {A : Type 0} → Result A FaultAt → Result A PlayerFault
-placed (Ok x) = Ok x
-placed (Err at) = Err (player_fault at.fault at.place)
-
 one_of_some : {T : Type 0} (x : T) (xs : List T) → min 1 (length (x ∷ xs)) ≡ 1
 one_of_some x xs = omega arith
 
--- With these items left and this ending, at this place.
-module _ {T : Type 0} (place : ℕ) where
-  -- the player's answer is the source's, with the place
-  pub source_answer : (items : List T) (e : Ending) → placed (faults_at place (first_of items e)) ≡ answer_of e place 1 (min 1 (length items)) None (slice_get items 0)
-  source_answer [] Finished = refl
-  source_answer [] (Faulted f) = refl
-  source_answer (x ∷ xs) e = rw (one_of_some x xs)
-
-  pub an_item : (items : List T) (e : Ending) (got : Bool) (x : T) → Ok (Some x) ≡ left_to_later got (answer_of e place 1 (min 1 (length items)) None (slice_get items 0)) → (slice_get items 0 ≡ Some x) × (1 ≤ length items)
-  an_item (y ∷ ys) e true x h = let k = rw (one_of_some y ys) at h in (cc, omega arith)
-  an_item (y ∷ ys) e false x h = let k = rw (one_of_some y ys) at h in (cc, omega arith)
-  an_item [] Finished true x h = cc
-  an_item [] Finished false x h = cc
-  an_item [] (Faulted f) true x h = cc
-  an_item [] (Faulted f) false x h = cc
-
-  pub no_item : (items : List T) (e : Ending) (got : Bool) → Ok None ≡ left_to_later got (answer_of e place 1 (min 1 (length items)) None (slice_get items 0)) → (length items ≡ 0) × (got ≡ false → e ≡ Finished)
-  no_item (y ∷ ys) e true h = let k = rw (one_of_some y ys) at h in cc
-  no_item (y ∷ ys) e false h = let k = rw (one_of_some y ys) at h in cc
-  no_item [] Finished got h = (refl, λ _. refl)
-  no_item [] (Faulted f) true h = (refl, λ k. cc)
-  no_item [] (Faulted f) false h = cc
-
-  pub a_fault : (items : List T) (e : Ending) (got : Bool) (f : PlayerFault) → Err f ≡ left_to_later got (answer_of e place 1 (min 1 (length items)) None (slice_get items 0)) → (length items ≡ 0) × (got ≡ false) × (Err f ≡ ending_answer {A = ℕ} e place 0)
-  a_fault (y ∷ ys) e true f h = let k = rw (one_of_some y ys) at h in cc
-  a_fault (y ∷ ys) e false f h = let k = rw (one_of_some y ys) at h in cc
-  a_fault [] Finished true f h = cc
-  a_fault [] Finished false f h = cc
-  a_fault [] (Faulted g) true f h = cc
-  a_fault [] (Faulted g) false f h = (refl, refl, cc)
+-- an item that is answered is the first that is left
+pub an_item : {T : Type 0} (place : ℕ) (items : List T) (e : Ending) (got : Bool) (x : T) → Ok (Some x) ≡ left_to_later got (answer_of e place 1 (min 1 (length items)) None (slice_get items 0)) → slice_get items 0 ≡ Some x
+an_item place (y ∷ ys) e true x h = let k = rw (one_of_some y ys) at h in cc
+an_item place (y ∷ ys) e false x h = let k = rw (one_of_some y ys) at h in cc
+an_item place [] (Ok _) true x h = cc
+an_item place [] (Ok _) false x h = cc
+an_item place [] (Err f) true x h = cc
+an_item place [] (Err f) false x h = cc

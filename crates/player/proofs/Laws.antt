@@ -3,9 +3,7 @@ use Rattle.std.proofs.Common.{◌≡◌, ℕ, zero, suc, ◌+◌, ◌<◌, ◌�
 use Rattle.std.proofs.lemmas.List.{take_at}
 use Rattle.std.proofs.lemmas.Bool.{cases_eq, cond-true, cond-false}
 use Rattle.std.specs.List.{slice_get}
-use Rattle.source.specs.Streams.{Stream}
-use Rattle.source.specs.declared.fault.Ending.{Ending}
-use Rattle.source.specs.declared.fault.Ending.TheVariants.{Finished, Faulted}
+use Rattle.source.specs.Streams.{Ending, Stream}
 use Rattle.player.specs.declared.fault.PlayerFault.{PlayerFault}
 use Rattle.player.specs.Calls.{Asked, next, fill, skip, rewind, wanted, Told, item, filled, skipped}
 use Rattle.player.specs.Plain.{handed_out, stopped, player_fault, ending_answer, none_came, answer_of, plain_next, plain_count, plain_buffer, plain_answer, plain_place, plain_run}
@@ -31,24 +29,24 @@ outcome w p wanted nothing told h =
 -- How an ending that is answered reads.
 module _ (p : ℕ) where
   end_counts : (e : Ending) → counted (ending_answer e p 0) ≡ 0
-  end_counts Finished = refl
-  end_counts (Faulted f) = refl
+  end_counts (Ok _) = refl
+  end_counts (Err f) = refl
 
   end_told : (n : ℕ) (e : Ending) → 0 < n → count_ending n (ending_answer e p 0) ≡ Some e
-  end_told n Finished h = cond-true (none_came n 0) (Some Finished) None (none_came_true n 0 h refl)
-  end_told n (Faulted f) h = refl
+  end_told n (Ok _) h = cond-true (none_came n 0) (Some (Ok tt)) None (none_came_true n 0 h refl)
+  end_told n (Err f) h = refl
 
   item_told : (T : Type 0) (e : Ending) → ending_told {T = T} 1 (item (ending_answer e p None)) ≡ Some e
-  item_told T Finished = refl
-  item_told T (Faulted f) = refl
+  item_told T (Ok _) = refl
+  item_told T (Err f) = refl
 
   end_brings : (T : Type 0) (e : Ending) → brought_out {T = T} (item (ending_answer e p None)) ≡ []
-  end_brings T Finished = refl
-  end_brings T (Faulted f) = refl
+  end_brings T (Ok _) = refl
+  end_brings T (Err f) = refl
 
   end_fault : {A : Type 0} (e : Ending) (nothing : A) (f : PlayerFault) → Err f ≡ ending_answer e p nothing → f.place ≡ stopped p
-  end_fault Finished nothing f h = cc
-  end_fault (Faulted g) nothing f h = let k : f ≡ player_fault g p = cc in ap (λ (v : PlayerFault). v.place) k
+  end_fault (Ok _) nothing f h = cc
+  end_fault (Err g) nothing f h = let k : f ≡ player_fault g p = cc in ap (λ (v : PlayerFault). v.place) k
 
 -- What the law says of one answer to a call at place p.
 record Lawful {T : Type 0} (w : Stream T) (p : ℕ) (call : Asked T) (answer : Told T) : Type 0 where
@@ -88,8 +86,8 @@ module _ {T : Type 0} (w : Stream T) (p : ℕ) (inside : p ≤ length w.items) w
 
     count_only : (r : Result ℕ PlayerFault) → Outcome w p n 0 (handed_out w p n) r → (e : Ending) → count_ending n r ≡ Some e → (0 < n) × (p ≡ length w.items) × (e ≡ w.ending)
     count_only r (at_end h k q) e i = let m = sym i ∙ ap (count_ending n) q ∙ end_told p n w.ending h in (h, k, cc)
-    count_only r (some h q) e i = let m = sym i ∙ ap (count_ending n) q ∙ cond-false (none_came n (handed_out w p n)) (Some Finished) None (none_came_some n (handed_out w p n) h) in cc
-    count_only r (unwanted h q) e i = let m = sym i ∙ ap (count_ending n) q ∙ cond-false (none_came n (handed_out w p n)) (Some Finished) None (none_came_unwanted n (handed_out w p n) h) in cc
+    count_only r (some h q) e i = let m = sym i ∙ ap (count_ending n) q ∙ cond-false (none_came n (handed_out w p n)) (Some (Ok tt)) None (none_came_some n (handed_out w p n) h) in cc
+    count_only r (unwanted h q) e i = let m = sym i ∙ ap (count_ending n) q ∙ cond-false (none_came n (handed_out w p n)) (Some (Ok tt)) None (none_came_unwanted n (handed_out w p n) h) in cc
 
     count_always : (r : Result ℕ PlayerFault) → Outcome w p n 0 (handed_out w p n) r → 0 < n → p ≡ length w.items → count_ending n r ≡ Some w.ending
     count_always r (at_end h k q) i j = ap (count_ending n) q ∙ end_told p n w.ending h

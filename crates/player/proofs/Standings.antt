@@ -2,17 +2,15 @@
 use Rattle.std.proofs.Common.{◌≡◌, ℕ, zero, suc, ◌+◌, min, cond, List, [], ◌∷◌, ◌++◌, length, take, drop, None, Ok, Err, sym, refl, ap, ◌∙◌, subst, ap₂, arith, length-drop}
 use Rattle.std.proofs.lemmas.List.{drop-drop}
 use Rattle.std.specs.List.{slice_get}
-use Rattle.source.specs.Streams.{Stream, rest, tail}
-use Rattle.source.specs.declared.fault.Ending.{Ending}
-use Rattle.source.specs.declared.fault.Ending.TheVariants.{Finished, Faulted}
+use Rattle.source.specs.Streams.{Ending, Stream, from}
 use Rattle.player.specs.Calls.{Asked, next, fill, skip, rewind, Told, item, filled, skipped}
 use Rattle.player.specs.Plain.{handed_out, stopped, ending_answer, none_came, answer_of, plain_next, plain_count, plain_buffer, plain_answer, plain_place}
-use Rattle.player.specs.Standing.{Standing, from, coming, next_answer, count_answer, buffer_after, onward, answer_to, standing_after, Stands, Plays}
+use Rattle.player.specs.Standing.{Standing, coming, next_answer, count_answer, buffer_after, onward, answer_to, standing_after, Stands, Plays}
 
 -- a place that has stopped stays there
 told_again : {A : Type 0} (e : Ending) (p : ℕ) (x : A) → ending_answer e (stopped p) x ≡ ending_answer e p x
-told_again Finished p x = refl
-told_again (Faulted f) p x = let k : stopped (stopped p) ≡ stopped p = omega arith in ap (λ q. Err (record { fault = f; place = q })) k
+told_again (Ok _) p x = refl
+told_again (Err f) p x = let k : stopped (stopped p) ≡ stopped p = omega arith in ap (λ q. Err (record { fault = f; place = q })) k
 
 pub nth_drop : {T : Type 0} (p : ℕ) (xs : List T) → slice_get (drop p xs) 0 ≡ slice_get xs p
 nth_drop zero [] = refl
@@ -68,13 +66,3 @@ pub plays : {T : Type 0} {s s' : Standing T} (call : Asked T) {r : Told T} → r
 plays call a m w p at =
     let e = call_plain at call in
     (a ∙ e.0, subst (λ u. Stands u w (plain_place w p call)) (sym m) e.1)
-
-one_off : {T : Type 0} (xs : List T) → tail xs ≡ drop (min 1 (length xs)) xs
-one_off [] = refl
-one_off (x ∷ xs) = let m : min 1 (length (x ∷ xs)) ≡ 1 = omega arith in rw m
-
--- after the source's `next` the player stands one item further, if there was one
-pub next_moves : {T : Type 0} (s : Standing T) {whole left : Stream T} {place : ℕ} → whole ≡ s.whole → left ≡ rest s.left → place ≡ stopped (s.place + coming 1 s) → ◌≡◌ {A = Standing T} (record { whole = whole; left = left; place = place }) (onward 1 s)
-next_moves s h k l =
-    let m = k ∙ ap (λ xs. record { items = xs; ending = s.left.ending }) (one_off s.left.items) in
-    λ i. record { whole = h i; left = m i; place = l i }

@@ -2,9 +2,7 @@
 -- place p, a number without limit, which is 0 when it is made.
 use Rattle.std.specs.Prelude.{ℕ, ◌+◌, ◌-◌, ◌^◌, min, Bool, cond, ◌&&◌, List, [], ◌∷◌, ◌++◌, length, take, drop, None, Ok, Err, Option, Result, ◌==◌, nat_lt}
 use Rattle.std.specs.List.{slice_get}
-use Rattle.source.specs.Streams.{Stream}
-use Rattle.source.specs.declared.fault.Ending.{Ending}
-use Rattle.source.specs.declared.fault.Ending.TheVariants.{Finished, Faulted}
+use Rattle.source.specs.Streams.{Ending, Stream}
 use Rattle.source.specs.declared.fault.Fault.{Fault}
 use Rattle.player.specs.Calls.{Asked, next, fill, skip, rewind, Told, item, filled, skipped, rewound}
 use Rattle.player.specs.declared.fault.PlayerFault.{PlayerFault}
@@ -23,8 +21,8 @@ player_fault f p = record { fault = f; place = stopped p }
 
 -- how an ending is answered at place p: finished as `nothing`, else as the player's fault
 abbrev pub ending_answer : {A : Type 0} → Ending → ℕ → A → Result A PlayerFault
-ending_answer Finished p nothing = Ok nothing
-ending_answer (Faulted f) p nothing = Err (player_fault f p)
+ending_answer (Ok _) p nothing = Ok nothing
+ending_answer (Err f) p nothing = Err (player_fault f p)
 
 -- items are wanted and t is 0
 abbrev pub none_came : ℕ → ℕ → Bool

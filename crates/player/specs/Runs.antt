@@ -2,9 +2,7 @@
 -- that comes out is item k of one whole, and an ending is told only where that whole ends.
 use Rattle.std.specs.Prelude.{◌≡◌, ℕ, ◌+◌, ◌<◌, ◌≤◌, cond, List, [], ◌∷◌, length, take, Some, None, Ok, Err, fold, Option, Result}
 use Rattle.std.specs.List.{slice_get}
-use Rattle.source.specs.Streams.{Stream}
-use Rattle.source.specs.declared.fault.Ending.{Ending}
-use Rattle.source.specs.declared.fault.Ending.TheVariants.{Finished, Faulted}
+use Rattle.source.specs.Streams.{Ending, Stream}
 use Rattle.player.specs.declared.fault.PlayerFault.{PlayerFault}
 use Rattle.player.specs.Calls.{Asked, wanted, Told, item, filled, skipped, rewound}
 use Rattle.player.specs.Plain.{none_came, stopped, plain_run}
@@ -37,14 +35,14 @@ place_told answers = fold place_after 0 answers
 
 -- the ending that a count tells, where n items were wanted: a 0 where none were wanted is no ending
 abbrev pub count_ending : ℕ → Result ℕ PlayerFault → Option Ending
-count_ending n (Ok t) = cond (none_came n t) (Some Finished) None
-count_ending n (Err f) = Some (Faulted f.fault)
+count_ending n (Ok t) = cond (none_came n t) (Some (Ok tt)) None
+count_ending n (Err f) = Some (Err f.fault)
 
 -- the ending that an answer tells, if it tells one, where n items were wanted
 abbrev pub ending_told : {T : Type 0} → ℕ → Told T → Option Ending
 ending_told n (item (Ok (Some x))) = None
-ending_told n (item (Ok None)) = Some Finished
-ending_told n (item (Err f)) = Some (Faulted f.fault)
+ending_told n (item (Ok None)) = Some (Ok tt)
+ending_told n (item (Err f)) = Some (Err f.fault)
 ending_told n (filled r buffer) = count_ending n r
 ending_told n (skipped r) = count_ending n r
 ending_told n rewound = None

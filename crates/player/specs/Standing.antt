@@ -2,13 +2,10 @@
 -- alone, whatever the source has left; if that is what a whole has from a place on, it is what the plain player does.
 use Rattle.std.specs.Prelude.{◌≡◌, ℕ, ◌+◌, ◌≤◌, min, Bool, true, false, List, ◌++◌, length, take, drop, None, Ok, Err, Option, Result}
 use Rattle.std.specs.List.{slice_get}
-use Rattle.source.specs.Streams.{Stream}
-use Rattle.source.specs.declared.fault.Fault.{Fault}
+use Rattle.source.specs.Streams.{Stream, from}
 use Rattle.player.specs.Calls.{Asked, next, fill, skip, rewind, Told, item, filled, skipped, rewound}
 use Rattle.player.specs.Plain.{stopped, answer_of, plain_answer, plain_place}
-use Rattle.player.specs.declared.fault.FaultAt.{FaultAt}
 use Rattle.player.specs.declared.fault.PlayerFault.{PlayerFault}
-use Rattle.player.specs.declared.player.Player.{Player}
 
 -- Where a player stands.
 pub record Standing (T : Type 0) : Type 0 where
@@ -19,22 +16,9 @@ pub record Standing (T : Type 0) : Type 0 where
   -- the place that it has counted
   pub place : ℕ
 
--- where a player stands, by what its source means
-abbrev pub standing : {S T : Type 0} → (S → Stream T) → (S → Stream T) → Player S → Standing T
-standing whole left player = record { whole = whole player.source; left = left player.source; place = player.place.count }
-
--- what a stream has from place p on
-abbrev pub from : {T : Type 0} → ℕ → Stream T → Stream T
-from p w = record { items = drop p w.items; ending = w.ending }
-
 -- how many items come to a call: as many as it wants, or all that are left
 abbrev pub coming : {T : Type 0} → ℕ → Standing T → ℕ
 coming wanted s = min wanted (length s.left.items)
-
--- a source's answer, with the place beside its fault
-abbrev pub faults_at : {A : Type 0} → ℕ → Result A Fault → Result A FaultAt
-faults_at place (Ok x) = Ok x
-faults_at place (Err f) = Err (record { fault = f; place = place })
 
 -- next answers the first item that is left
 abbrev pub next_answer : {T : Type 0} → Standing T → Result (Option T) PlayerFault

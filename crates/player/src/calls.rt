@@ -2,7 +2,7 @@
 use crate::fault::PlayerFault;
 
 // One call, with its argument. A fill brings its buffer.
-#[derive(Drop)]
+#[derive(PartialEq, Eq, Debug, Drop)]
 pub enum Call<T> {
     Next,
     Fill(Vec<T>),
@@ -11,7 +11,7 @@ pub enum Call<T> {
 }
 
 // What a call answered. A fill hands its buffer back.
-#[derive(Drop)]
+#[derive(PartialEq, Eq, Debug, Drop)]
 pub enum Answer<T> {
     Item(Result<Option<T>, PlayerFault>),
     Filled(Result<usize, PlayerFault>, Vec<T>),

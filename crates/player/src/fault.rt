@@ -1,18 +1,10 @@
 // The player's fault: the source's fault whole, and the place.
 ghost use Rattle.std.specs.Prelude.{◌≡◌};
 ghost use Rattle.player.specs.Plain.{player_fault};
-ghost use Rattle.player.specs.Standing.{faults_at};
 
 use crate::place::LAST_PLACE;
 use source::fault::Fault;
 use std::fmt;
-
-// A source's fault, and how many items the player had handed out or skipped when it came.
-#[derive(Clone, Copy, PartialEq, Eq, Debug)]
-pub struct FaultAt {
-    pub fault: Fault,
-    pub place: u64,
-}
 
 // What a player answers at a fault. The place is at most 2^63 - 1.
 #[derive(Clone, Copy, PartialEq, Eq, Debug)]
@@ -21,13 +13,14 @@ pub struct PlayerFault {
     pub place: u64,
 }
 
-impl From<FaultAt> for PlayerFault {
-    ghost from_gives = { λ at r. r ≡ player_fault at.fault at.place };
+// From a source's fault, and how many items the player had handed out or skipped when it came.
+impl From<(Fault, u64)> for PlayerFault {
+    ghost from_gives = { λ at r. r ≡ player_fault at.0 at.1 };
 
-    fn from(at: FaultAt) -> PlayerFault {
+    fn from((fault, place): (Fault, u64)) -> PlayerFault {
         PlayerFault {
-            fault: at.fault,
-            place: at.place.min(LAST_PLACE),
+            fault,
+            place: place.min(LAST_PLACE),
         }
     }
 }
@@ -37,15 +30,5 @@ impl fmt::Display for PlayerFault {
         let fault = self.fault;
         let place = self.place;
         write!(f, "{fault} place {place}")
-    }
-}
-
-// A source's answer, with the place beside its fault.
-pub(crate) fn with_place<T>(answer: Result<T, Fault>, place: u64) -> Result<T, FaultAt>
-    ensures { result ≡ faults_at place answer }
-{
-    match answer {
-        Ok(item) => Ok(item),
-        Err(fault) => Err(FaultAt { fault, place }),
     }
 }

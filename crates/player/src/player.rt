@@ -1,23 +1,33 @@
 // A player: it plays one source, item by item, in blocks, or passing items over.
 ghost use Rattle.std.specs.Prelude.{◌≡◌, length};
 ghost use Rattle.player.specs.Calls.{next, fill, skip, rewind, item, filled, skipped, rewound};
-ghost use Rattle.player.specs.Standing.{standing, next_answer, left_to_later, count_answer, buffer_after, onward, restarted, Plays, Stands};
+ghost use Rattle.player.specs.Standing.{next_answer, left_to_later, count_answer, buffer_after, onward, restarted, Plays, Stands};
 
-use crate::fault::{PlayerFault, with_place};
+use crate::fault::PlayerFault;
 use crate::place::Place;
 use source::source::Source;
+use std::marker::Model;
 
 #[derive(Drop)]
-pub struct Player<S> {
+pub struct Player<S: Source> {
     source: S,
     // How many items were handed out or skipped since the start or the last rewind.
     place: Place,
 }
 
+// In clauses a player is where it stands.
+impl<S: Source> Model for Player<S> {
+    ghost use Rattle.player.specs.Standing.{Standing};
+
+    ghost Value = { Standing S.Item };
+
+    ghost view = { λ p. record { whole = S.Source.whole p.source; left = S.Source.left p.source; place = p.place.count } };
+}
+
 impl<S: Source> Player<S> {
     // A player at the start of the source's whole.
     pub fn new(source: S) -> Self
-        ensures stands { Stands (standing S.Source.whole S.Source.left result) (S.Source.whole source) 0 }
+        ensures stands { Stands result (S.Source.whole source) 0 }
     {
         let mut player = Player {
             source,
@@ -29,23 +39,22 @@ impl<S: Source> Player<S> {
 
     // The next item; at the end no item, or the fault.
     pub fn next(&mut self) -> Result<Option<S::Item>, PlayerFault>
-        ensures answers { result ≡ next_answer (standing S.Source.whole S.Source.left self.old) }
-        ensures moves { standing S.Source.whole S.Source.left self.new ≡ onward 1 (standing S.Source.whole S.Source.left self.old) }
-        ensures plays { Plays next (standing S.Source.whole S.Source.left self.old) (standing S.Source.whole S.Source.left self.new) (item result) }
+        ensures answers { result ≡ next_answer self.old }
+        ensures moves { self.new ≡ onward 1 self.old }
+        ensures plays { Plays next self.old self.new (item result) }
     {
-        match with_place(self.source.next(), self.place.count())? {
-            Some(item) => {
-                self.place = self.place.onward();
-                Ok(Some(item))
-            }
-            None => Ok(None),
+        let place = self.place.count();
+        let item = self.source.next().map_err(|fault| (fault, place))?;
+        if item.is_some() {
+            self.place = self.place.onward();
         }
+        Ok(item)
     }
 
     // The next item for a call that goes on. Once it has got items, a fault is left to the call after it.
     fn more(&mut self, got: bool) -> Result<Option<S::Item>, PlayerFault>
-        ensures answers { result ≡ left_to_later got (next_answer (standing S.Source.whole S.Source.left self.old)) }
-        ensures moves { standing S.Source.whole S.Source.left self.new ≡ onward 1 (standing S.Source.whole S.Source.left self.old) }
+        ensures answers { result ≡ left_to_later got (next_answer self.old) }
+        ensures moves { self.new ≡ onward 1 self.old }
     {
         match self.next() {
             Err(_) if got => Ok(None),
@@ -56,11 +65,14 @@ impl<S: Source> Player<S> {
     // Puts the next items into the buffer from its start, and answers how many; other places stay. Where items are
     // wanted and none is left: 0, or the fault.
     pub fn fill(&mut self, buffer: &mut [S::Item]) -> Result<usize, PlayerFault>
-        ensures answers { result ≡ count_answer (length buffer.old) (standing S.Source.whole S.Source.left self.old) }
-        ensures buffer { buffer.new ≡ buffer_after buffer.old (standing S.Source.whole S.Source.left self.old) }
-        ensures moves { standing S.Source.whole S.Source.left self.new ≡ onward (length buffer.old) (standing S.Source.whole S.Source.left self.old) }
-        ensures plays { Plays (fill buffer.old) (standing S.Source.whole S.Source.left self.old) (standing S.Source.whole S.Source.left self.new) (filled result buffer.new) }
+        ensures answers { result ≡ count_answer (length buffer.old) self.old }
+        ensures buffer { buffer.new ≡ buffer_after buffer.old self.old }
+        ensures moves { self.new ≡ onward (length buffer.old) self.old }
+        ensures plays { Plays (fill buffer.old) self.old self.new (filled result buffer.new) }
     {
+        // Named so that its range is known in the loop: a place is at most 2^63 - 1.
+        let _ = &self.place;
+        // The index is the answer.
         for (placed, slot) in buffer.iter_mut().enumerate() {
             match self.more(placed > 0)? {
                 Some(item) => *slot = item,
@@ -72,10 +84,12 @@ impl<S: Source> Player<S> {
 
     // Passes the next n items over, and answers how many. Where items are wanted and none is left: 0, or the fault.
     pub fn skip(&mut self, n: u32) -> Result<u32, PlayerFault>
-        ensures answers { result ≡ count_answer n (standing S.Source.whole S.Source.left self.old) }
-        ensures moves { standing S.Source.whole S.Source.left self.new ≡ onward n (standing S.Source.whole S.Source.left self.old) }
-        ensures plays { Plays (skip n) (standing S.Source.whole S.Source.left self.old) (standing S.Source.whole S.Source.left self.new) (skipped result) }
+        ensures answers { result ≡ count_answer n self.old }
+        ensures moves { self.new ≡ onward n self.old }
+        ensures plays { Plays (skip n) self.old self.new (skipped result) }
     {
+        // Named so that its range is known in the loop: a place is at most 2^63 - 1.
+        let _ = &self.place;
         for passed in 0..n {
             if self.more(passed > 0)?.is_none() {
                 return Ok(passed);
@@ -86,8 +100,8 @@ impl<S: Source> Player<S> {
 
     // Back to the start.
     pub fn rewind(&mut self)
-        ensures moves { standing S.Source.whole S.Source.left self.new ≡ restarted (standing S.Source.whole S.Source.left self.old) }
-        ensures plays { Plays rewind (standing S.Source.whole S.Source.left self.old) (standing S.Source.whole S.Source.left self.new) rewound }
+        ensures moves { self.new ≡ restarted self.old }
+        ensures plays { Plays rewind self.old self.new rewound }
     {
         self.source.rewind();
         self.place = Place::start();

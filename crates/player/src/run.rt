@@ -2,7 +2,7 @@
 ghost use Rattle.std.specs.Prelude.{◌≡◌, map, IfOk};
 ghost use Rattle.player.specs.Calls.{asked, told};
 ghost use Rattle.player.specs.Runs.{LawOfRuns};
-ghost use Rattle.player.specs.Standing.{standing, answer_to, standing_after, Plays};
+ghost use Rattle.player.specs.Standing.{answer_to, standing_after, Plays};
 
 use crate::calls::{Answer, Call};
 use crate::player::Player;
@@ -12,9 +12,9 @@ use std::alloc::{AllocError, Global};
 impl<S: Source> Player<S> {
     // Carries out one call.
     pub fn answer(&mut self, call: Call<S::Item>) -> Answer<S::Item>
-        ensures answers { told result ≡ answer_to (asked call) (standing S.Source.whole S.Source.left self.old) }
-        ensures moves { standing S.Source.whole S.Source.left self.new ≡ standing_after (asked call) (standing S.Source.whole S.Source.left self.old) }
-        ensures plays { Plays (asked call) (standing S.Source.whole S.Source.left self.old) (standing S.Source.whole S.Source.left self.new) (told result) }
+        ensures answers { told result ≡ answer_to (asked call) self.old }
+        ensures moves { self.new ≡ standing_after (asked call) self.old }
+        ensures plays { Plays (asked call) self.old self.new (told result) }
     {
         match call {
             Call::Next => Answer::Item(self.next()),

@@ -6,10 +6,9 @@
 
 ghost use Rattle.std.specs.Prelude.{◌≡◌, map, IfOk};
 ghost use Rattle.chain.specs.Chains.{played};
-ghost use Rattle.chain.specs.Meanings.{chain_whole, chain_left};
 ghost use Rattle.player.specs.Calls.{asked, told};
 ghost use Rattle.player.specs.Runs.{LawOfRuns};
-ghost use Rattle.player.specs.Standing.{standing, Stands};
+ghost use Rattle.player.specs.Standing.{Stands};
 
 use chain::standard::{StandardChain, standard_chain};
 use link::settings::Settings;
@@ -27,7 +26,7 @@ pub fn standard_player<S: Source<Item = ConverterSample>, G: Source<Item = GainI
     signal: S,
     indices: G,
 ) -> Player<StandardChain<S, G>>
-    ensures { Stands (standing (chain_whole S.Source.whole G.Source.whole) (chain_left S.Source.left G.Source.left) result) (played settings.now (S.Source.whole signal) (G.Source.whole indices)) 0 }
+    ensures { Stands result (played settings.now (S.Source.whole signal) (G.Source.whole indices)) 0 }
 {
     let start = standard_chain(settings, signal, indices);
     Player::new(start)

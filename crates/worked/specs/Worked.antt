@@ -1,5 +1,5 @@
 -- Worked examples of the formulas, in plain numbers.
-use Rattle.std.specs.Prelude.{◌≡◌, ℕ, zero, suc, ◌+◌, ◌^◌, List, [], ◌∷◌, replicate, ℤ, pos, negsuc, neg_ℤ, None, Ok}
+use Rattle.std.specs.Prelude.{◌≡◌, ℕ, zero, suc, ◌+◌, ◌^◌, List, [], ◌∷◌, replicate, ℤ, pos, negsuc, neg_ℤ, None, Ok, Err}
 use Rattle.std.proofs.Common.{lit≤}
 use Rattle.std.specs.Int.Signed.{le_z_yes}
 use Rattle.samples.specs.Kinds.{converter, air, gain_index}
@@ -7,7 +7,6 @@ use Rattle.samples.specs.declared.gain_index.GainIndex.{GainIndex}
 use Rattle.samples.specs.declared.kinds.AirSample.{AirSample}
 use Rattle.samples.specs.declared.kinds.WorkingSample.{WorkingSample}
 use Rattle.source.specs.Streams.{Stream, answer, rest}
-use Rattle.source.specs.declared.fault.Ending.TheVariants.{Finished, Faulted}
 use Rattle.source.specs.declared.fault.FaultKind.TheVariants.{LowBits}
 use Rattle.stages.specs.Clock.{outputs, clock_step}
 use Rattle.stages.specs.Noise.{noise}
@@ -56,11 +55,11 @@ abbrev pub three_then_fault : Stream AirSample
 three_then_fault =
     record {
       items = air (pos 1) (pos 2) ∷ air (pos 3) (pos 4) ∷ air (pos 5) (pos 6) ∷ [];
-      ending = Faulted (record { kind = LowBits; input = 0; item = 3 });
+      ending = Err (record { kind = LowBits; input = 0; item = 3 });
     }
 
 abbrev pub two_indices : Stream GainIndex
-two_indices = record { items = gain_index (pos 7) ∷ gain_index (pos 8) ∷ []; ending = Finished }
+two_indices = record { items = gain_index (pos 7) ∷ gain_index (pos 8) ∷ []; ending = Ok tt }
 
 -- what is left after n calls of `next`
 abbrev pub left_after : {T : Type 0} → ℕ → Stream T → Stream T

@@ -1,7 +1,6 @@
-use Rattle.std.proofs.Common.{refl, arith}
-use Rattle.std.proofs.lemmas.Int.{ints}
+use Rattle.std.proofs.Common.{refl, rules}
 use Rattle.link.proofs.Accepted.{gain_made}
 use Rattle.link.proofs.checks.checked_gain.Goals as goal
 
 pub returns : goal.returns
-returns c = gain_made _ c.args.shift c.args.factor (omega (arith, ints)) refl
+returns c = gain_made _ c.args.shift c.args.factor (search rules) refl

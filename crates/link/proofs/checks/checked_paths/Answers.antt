@@ -16,7 +16,7 @@ pub returns-then-p-gt63 : goal.returns-then-p-gt63
 returns-then-p-gt63 c =
     let given = c.args.given.now in
     let i = c.loop-i.i in
-    long_delay given (omega arith, omega arith) i
+    long_delay given (search rules) i
     record {
       there = c.loop-i-test.true;
       wrong = at_place (λ p. Near p → ⊥) given i zeros c.loop-i-test.true (λ h. omega (arith, h, c.if-p-gt63.true));
@@ -31,7 +31,7 @@ loop-i-preserved c =
     let im : SFits w16 (get_or given i zeros).im = search rules in (
       length-set c.loop-i.places i _ ∙ c.loop-i.invariant.0,
       AllWithin-more Near given 0 i c.loop-i.invariant.1 (at_place Near given i zeros c.loop-i-test.true c.if-p-gt63.false),
-      part_more numbers 10 i (numbers neutral_path) zeros given c.loop-i.places _ c.loop-i-test.true (omega arith)
+      part_more numbers 10 i (numbers neutral_path) zeros given c.loop-i.places _ c.loop-i-test.true (search rules)
           (λ j.
           record {
             re = to_z-of_z w16 (get_or given i zeros).re re j;

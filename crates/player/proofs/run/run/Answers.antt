@@ -6,21 +6,21 @@ use Rattle.source.specs.Streams.{Stream}
 use Rattle.player.specs.Calls.{asked, told}
 use Rattle.player.specs.Plain.{plain_place, plain_run}
 use Rattle.player.specs.Runs.{LawOfRuns}
-use Rattle.player.specs.Standing.{standing, Stands}
+use Rattle.player.specs.Standing.{Stands}
 use Rattle.player.proofs.Laws.{law, run_more, place_more}
 use Rattle.player.proofs.run.run.Goals as goal
 
 pub loop-call-init : goal.loop-call-init
 loop-call-init g c =
-    let s = standing g.S.Source.whole g.S.Source.left c.new-player.result in (
+    let s = c.new-player.result in (
       ap (map told) c.new-answers.ensures.items,
       subst (λ (w : Stream _). Stands s w 0) (sym c.new-player.ensures.stands.whole) c.new-player.ensures.stands,
     )
 
 pub loop-call-preserved : goal.loop-call-preserved
 loop-call-preserved g c =
-    let w = g.S.Source.whole c.new-player.result.source in
-    let s = standing g.S.Source.whole g.S.Source.left c.answer.new.self in
+    let w = c.new-player.result.whole in
+    let s = c.answer.new.self in
     let calls = map asked c.loop-call.yielded in
     let more = sym (map_push asked c.loop-call.yielded c.in-Some.call) in
     let e = c.answer.ensures.plays w (fold (plain_place w) 0 calls) c.loop-call.invariant.1 in (
@@ -36,6 +36,6 @@ returns g c =
     let all : c.loop-call.yielded ≡ vec_items c.args.calls = sym (map-id c.loop-call.yielded) ∙ end.0 ∙ c.into_iter-call-iterator.ensures.into_iter_gives.0 in
     let calls = map asked (vec_items c.args.calls) in
     let answers = map told (vec_items c.loop-call.answers) in
-    let w = g.S.Source.whole c.new-player.result.source in
+    let w = c.new-player.result.whole in
     subst (λ (v : Stream _). LawOfRuns v calls answers) c.new-player.ensures.stands.whole
     (law w calls answers (c.loop-call.invariant.0 ∙ ap (λ (xs : List _). plain_run w 0 (map asked xs)) all))

@@ -1,5 +1,5 @@
 use Rattle.std.proofs.Common.{replicate, refl, ap}
-use Rattle.link.proofs.Equal.{same_settings, same_scale, same_frequency, same_clock, same_seeds}
+use Rattle.link.proofs.Equal.{same_settings, same_scale, same_frequency, same_clock, same_seeds, same_entry, same_gain, same_path, same_paths, same_table}
 use Rattle.link.proofs.settings.Settings.fresh.Goals as goal
 
 pub returns : goal.returns
@@ -10,15 +10,15 @@ returns c =
     (same_scale _ _ refl)
     refl
     refl
-    c.full_table.ensures
+    (same_table _ _ (ap (replicate 513) (same_entry _ _ refl refl)))
     refl
-    c.one_path.ensures
+    (same_paths _ _ (ap (replicate 10) (same_path _ _ refl refl refl)) refl)
     (same_frequency _ _ refl)
     (same_clock _ _ refl)
     refl
-    c.unit_gain.ensures
+    (same_gain _ _ refl refl)
     (same_seeds _ _ refl refl)
-    (ap (replicate 128) c.unit_gain-2.ensures)
+    (ap (replicate 128) (same_gain _ _ refl refl))
     refl
     refl
     refl
