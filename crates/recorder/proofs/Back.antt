@@ -9,7 +9,6 @@ use Rattle.samples.specs.Kinds.{converter}
 use Rattle.samples.specs.declared.converter.ConverterSample.{ConverterSample}
 use Rattle.samples.specs.Equal.{same_sample}
 use Rattle.samples.specs.Widths.{clip_same}
-use Rattle.source.specs.declared.fault.Ending.TheVariants.{Finished}
 use Rattle.source.specs.declared.fault.FaultKind.TheVariants.{LowBits}
 use Rattle.source.specs.Streams.{Stream, tabulate}
 use Rattle.wave.specs.declared.chunks.Step.{Step}
@@ -24,10 +23,6 @@ use Rattle.recorder.specs.Writing.{word, coded, size_of, recorded, good_rate}
 use Rattle.recordings.proofs.Reading.{peeled}
 
 -- a part comes back from its word
-word_small : (z : ℤ) → Within 12 z → word z < 65536
-word_small (pos v) w = omega (arith, ints, w.0, w.1)
-word_small (negsuc v) w = omega (arith, ints, w.0, w.1)
-
 word_clear : (z : ℤ) → Within 12 z → word z % 16 ≡ 0
 word_clear (pos v) w = omega (arith, ints, w.0, w.1)
 word_clear (negsuc v) w = omega (arith, ints, w.0, w.1)
@@ -69,11 +64,11 @@ slots_back (x ∷ xs) =
     peeled signal_item 4 (coded x ++ flat_map coded xs) (suc (length xs)) (length xs) refl
     ∙ ap₂ (λ (y : Option ConverterSample) (ys : List (Option ConverterSample)). y ∷ ys) (sample_back x (flat_map coded xs)) (slots_back xs)
 
-all_sound : (input k : ℕ) (xs : List ConverterSample) → before_fault LowBits input k (map Some xs) ≡ record { items = xs; ending = Finished }
+all_sound : (input k : ℕ) (xs : List ConverterSample) → before_fault LowBits input k (map Some xs) ≡ record { items = xs; ending = Ok tt }
 all_sound input k [] = refl
 all_sound input k (x ∷ xs) = ap (λ (s : Stream ConverterSample). record { items = x ∷ s.items; ending = s.ending }) (all_sound input (k + 1) xs)
 
-pub held_back : (input : ℕ) (xs : List ConverterSample) → held_from signal_item 4 LowBits input 0 (length xs) (flat_map coded xs) ≡ record { items = xs; ending = Finished }
+pub held_back : (input : ℕ) (xs : List ConverterSample) → held_from signal_item 4 LowBits input 0 (length xs) (flat_map coded xs) ≡ record { items = xs; ending = Ok tt }
 held_back input xs = ap (before_fault LowBits input 0) (slots_back xs) ∙ all_sound input 0 xs
 
 -- how long they are

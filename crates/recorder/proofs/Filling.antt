@@ -1,18 +1,15 @@
 -- A recording of what a source has left, sample by sample.
-use Rattle.std.proofs.Common.{◌≡◌, ℕ, zero, suc, ◌+◌, ◌<◌, ◌≤◌, Bool, true, false, cond, leb, List, [], ◌∷◌, ◌++◌, length, take, drop, Some, None, Ok, Err, Option, Result, sym, refl, ap, ◌∙◌, suc-add, arith}
-use Rattle.std.proofs.lemmas.List.{take-append-drop, length-take-le, flat_map_more}
+use Rattle.std.proofs.Common.{◌≡◌, ℕ, zero, suc, ◌+◌, ◌<◌, ◌≤◌, Bool, true, false, cond, leb, List, [], ◌∷◌, ◌++◌, length, take, drop, Some, None, Ok, Err, Option, sym, refl, ap, ◌∙◌, suc-add, arith}
+use Rattle.std.proofs.lemmas.List.{length-drop, length-take-le, flat_map_more}
 use Rattle.std.proofs.lemmas.Bool.Decides.{nat_tests}
 use Rattle.std.specs.List.{flat_map}
 use Rattle.samples.specs.declared.converter.ConverterSample.{ConverterSample}
-use Rattle.source.specs.declared.fault.Ending.{Ending}
-use Rattle.source.specs.declared.fault.Ending.TheVariants.{Finished, Faulted}
-use Rattle.source.specs.declared.fault.Fault.{Fault}
-use Rattle.source.specs.Streams.{Stream, answer, rest, first_of, tail}
+use Rattle.source.specs.Streams.{Ending, Stream, answer, at_end, rest, first_of, from, tail}
 use Rattle.wave.specs.Bytes.{overwrite}
-use Rattle.recorder.specs.Sessions.{taken, from, met}
+use Rattle.recorder.specs.Sessions.{taken, met}
 use Rattle.recorder.specs.Writing.{coded, size_of, fits, put_count, after_put}
 use Rattle.recorder.proofs.Back.{coded_length}
-use Rattle.recorder.proofs.Overwriting.{overwrite_more, fits_passes}
+use Rattle.recorder.proofs.Overwriting.{overwrite_more}
 
 -- After k samples: what the recording counts, what the bytes hold, and what the source has left.
 pub record Going (start : ℕ) (bytes : List ℕ) (left whole : Stream ConverterSample) (k count : ℕ) (held : List ℕ) (rests kept : Stream ConverterSample) : Type 0 where
@@ -22,52 +19,32 @@ pub record Going (start : ℕ) (bytes : List ℕ) (left whole : Stream Converter
   pub behind : rests ≡ from k left
   pub same : kept ≡ whole
 
--- what follows from a contradiction
-pub never : {P : Type 0} → ◌≡◌ {A = ℕ} 0 1 → P
-never z = absurd (omega arith)
-
 -- an item came: it is the first of what is left
 came : {T : Type 0} (d : List T) (e : Ending) (x : T) → Ok (Some x) ≡ first_of d e → d ≡ x ∷ tail d
-came [] Finished x h = never (cc)
-came [] (Faulted f) x h = never (cc)
+came [] (Ok _) x h = cc
+came [] (Err f) x h = cc
 came (y ∷ ys) e x h = let i : x ≡ y = cc in ap (λ (z : _). z ∷ ys) (sym i)
 
 -- none came: nothing is left, and that is the ending
-none_came : {T : Type 0} (d : List T) (e : Ending) → ◌≡◌ {A = Result (Option T) Fault} (Ok None) (first_of d e) → (d ≡ []) × (e ≡ Finished)
-none_came [] Finished h = (refl, refl)
-none_came [] (Faulted f) h = never (cc)
-none_came (y ∷ ys) e h = never (cc)
-
-fault_came : {T : Type 0} (d : List T) (e : Ending) (f : Fault) → ◌≡◌ {A = Result (Option T) Fault} (Err f) (first_of d e) → (d ≡ []) × (e ≡ Faulted f)
-fault_came [] Finished f h = never (cc)
-fault_came [] (Faulted g) f h = let i : f ≡ g = cc in (refl, ap Faulted (sym i))
-fault_came (y ∷ ys) e f h = never (cc)
+none_came : {T : Type 0} (d : List T) (e r : Ending) → at_end {T = T} r ≡ first_of d e → (d ≡ []) × (e ≡ r)
+none_came [] (Ok _) (Ok _) h = (refl, refl)
+none_came [] (Ok _) (Err f) h = cc
+none_came [] (Err g) (Ok _) h = cc
+none_came [] (Err g) (Err f) h = let i : f ≡ g = cc in (refl, ap Err (sym i))
+none_came (y ∷ ys) e (Ok _) h = cc
+none_came (y ∷ ys) e (Err f) h = cc
 
 -- one step along a list
 further : {T : Type 0} (k : ℕ) (xs : List T) (x : T) (ys : List T) → drop k xs ≡ x ∷ ys → (take (k + 1) xs ≡ take k xs ++ x ∷ []) × (drop (k + 1) xs ≡ ys) × (k + 1 ≤ length xs)
-further zero [] x ys h = never (cc)
+further zero [] x ys h = cc
 further zero (z ∷ zs) x ys h = (let i : z ≡ x = cc in ap (λ (w : _). w ∷ []) i, (let i : zs ≡ ys = cc in i), omega arith)
-further (suc k) [] x ys h = never (cc)
+further (suc k) [] x ys h = cc
 further (suc k) (z ∷ zs) x ys h =
     let f = further k zs x ys h in
     (rw suc-add (ap (λ (ws : List _). z ∷ ws) f.0), rw suc-add f.1, let l = f.2 in omega arith)
 
 exhausted : {T : Type 0} (k : ℕ) (xs : List T) → drop k xs ≡ [] → length xs ≤ k
-exhausted zero [] h = omega arith
-exhausted zero (z ∷ zs) h = never (cc)
-exhausted (suc k) [] h = omega arith
-exhausted (suc k) (z ∷ zs) h = let l = exhausted k zs h in omega arith
-
--- before the first sample
-pub begun : (start : ℕ) (b : List ℕ) (left whole : Stream ConverterSample) → Going start b left whole 0 start b left whole
-begun start b left whole =
-    record {
-      few = omega arith;
-      counted = omega arith;
-      written = sym (take-append-drop (size_of start) b) ∙ ap (λ (k : ℕ). take (size_of start) b ++ drop k b) (omega arith);
-      behind = refl;
-      same = refl;
-    }
+exhausted k xs h = omega (arith, ap length h, length-drop k xs)
 
 module _ (start : ℕ) (b : List ℕ) (left whole : Stream ConverterSample) (k count : ℕ) (held : List ℕ) (rests kept : Stream ConverterSample) (at : Going start b left whole k count held rests kept) where
   -- one sample more
@@ -80,7 +57,7 @@ module _ (start : ℕ) (b : List ℕ) (left whole : Stream ConverterSample) (k c
       let xs = left.items in
       let e : drop k left.items ≡ x ∷ tail (drop k left.items) = came (drop k left.items) left.ending x (a ∙ ap answer at.behind) in
       let f = further k left.items x (tail (drop k left.items)) e in
-      let t : fits (length held) (count + 1) ≡ true = fits_passes (length held) (count + 1) room (omega arith) in
+      let t : fits (length held) (count + 1) ≡ true = grind (arith, nat_tests) in
       let place : size_of count ≡ size_of start + length (flat_map coded (take k left.items)) = let c = coded_length (take k left.items) in let l = length-take-le k left.items at.few in let n = at.counted in omega arith in
       record {
         few = f.2;
@@ -115,26 +92,17 @@ module _ (start : ℕ) (b : List ℕ) (left whole : Stream ConverterSample) (k c
         same = at.same;
       }
 
-  -- nothing is left
-  over : (room : ℕ) (e : Ending) → k < room → drop k left.items ≡ [] → left.ending ≡ e → (rests' kept' : Stream ConverterSample) → rests' ≡ rest rests → kept' ≡ kept → Ended room (Some e) rests' kept'
-  over room e h d i rests' kept' m s =
-      let l : length left.items ≤ k = exhausted k left.items d in
+  -- nothing is left, and the source tells its ending
+  pub over : (room : ℕ) (e : Ending) → k < room → at_end e ≡ answer rests → (rests' kept' : Stream ConverterSample) → rests' ≡ rest rests → kept' ≡ kept → Ended room (Some e) rests' kept'
+  over room e h a rests' kept' m s =
+      let n = none_came (drop k left.items) left.ending e (a ∙ ap answer at.behind) in
+      let l : length left.items ≤ k = exhausted k left.items n.0 in
       let t : k ≡ taken room left = let f = at.few in omega arith in
       let q : leb room (length left.items) ≡ false = let f = at.few in grind (arith, nat_tests) in
       record {
-        answered = sym (ap (λ (p : Bool). cond p None (Some left.ending)) q ∙ ap Some i);
+        answered = sym (ap (λ (p : Bool). cond p None (Some left.ending)) q ∙ ap Some n.1);
         counted = at.counted ∙ ap (λ (j : ℕ). start + j) t;
         written = at.written ∙ ap (λ (j : ℕ). overwrite (size_of start) (flat_map coded (take j left.items)) b) t;
-        behind = m ∙ ap rest at.behind ∙ ap (λ (ys : List ConverterSample). record { items = ys; ending = left.ending }) (ap tail d ∙ sym d) ∙ ap (λ (j : ℕ). from j left) t;
+        behind = m ∙ ap rest at.behind ∙ ap (λ (ys : List ConverterSample). record { items = ys; ending = left.ending }) (ap tail n.0 ∙ sym n.0) ∙ ap (λ (j : ℕ). from j left) t;
         same = s ∙ at.same;
       }
-
-  pub finished : (room : ℕ) → k < room → Ok None ≡ answer rests → (rests' kept' : Stream ConverterSample) → rests' ≡ rest rests → kept' ≡ kept → Ended room (Some Finished) rests' kept'
-  finished room h a rests' kept' m s =
-      let e = none_came (drop k left.items) left.ending (a ∙ ap answer at.behind) in
-      over room Finished h e.0 e.1 rests' kept' m s
-
-  pub faulted : (room : ℕ) (f : Fault) → k < room → Err f ≡ answer rests → (rests' kept' : Stream ConverterSample) → rests' ≡ rest rests → kept' ≡ kept → Ended room (Some (Faulted f)) rests' kept'
-  faulted room f h a rests' kept' m s =
-      let e = fault_came (drop k left.items) left.ending f (a ∙ ap answer at.behind) in
-      over room (Faulted f) h e.0 e.1 rests' kept' m s

@@ -1,12 +1,11 @@
 -- What bytes hold after a write, and what they held before it.
-use Rattle.std.proofs.Common.{◌≡◌, ℕ, ◌+◌, ◌-◌, ◌*◌, ◌≤◌, true, List, ◌++◌, length, take, drop, sym, refl, ap, ◌∙◌, ap₂, append_assoc, arith}
+use Rattle.std.proofs.Common.{◌≡◌, ℕ, ◌+◌, ◌-◌, ◌*◌, ◌≤◌, List, ◌++◌, length, take, drop, sym, ap, ◌∙◌, ap₂, append_assoc, arith}
 use Rattle.std.proofs.lemmas.List.{length-append, length-take-le, length-drop, length_push, take_at, drop_at, drop-drop, take-append-drop, flat_map_more}
-use Rattle.std.proofs.lemmas.Bool.Decides.{nat_tests}
 use Rattle.std.specs.List.{flat_map}
 use Rattle.samples.specs.declared.converter.ConverterSample.{ConverterSample}
 use Rattle.wave.specs.Bytes.{overwrite}
 use Rattle.recordings.specs.Opening.{HandsOut, signal_opening}
-use Rattle.recorder.specs.Writing.{header, coded, size_of, recorded, fits, sized, Adds, Finishes}
+use Rattle.recorder.specs.Writing.{header, coded, size_of, recorded, sized, Adds, Finishes}
 use Rattle.recorder.proofs.Back.{hands_out, coded_length}
 
 -- up to its end, a write is what was before it and what was written
@@ -31,10 +30,6 @@ overwrite_more s xs ys b n h e =
     ∙ append_assoc (take s b) xs (ys ++ drop (s + length (xs ++ ys)) b)
     ∙ ap (λ (p : List ℕ). take s b ++ p) (sym (append_assoc xs ys (drop (s + length (xs ++ ys)) b)))
 
--- room for n samples, as the writer tests it
-pub fits_passes : (len n : ℕ) → size_of n ≤ len → size_of n ≤ 65536 → fits len n ≡ true
-fits_passes len n h k = grind (arith, nat_tests)
-
 -- one sample more
 pub adds : (b : List ℕ) (n : ℕ) (x : ConverterSample) → size_of (n + 1) ≤ length b → Adds b (overwrite (size_of n) (coded x) b) n x
 adds b n x room rate xs l h =
@@ -42,10 +37,6 @@ adds b n x room rate xs l h =
     ∙ take-overwrite (size_of n) (coded x) b (size_of (n + 1)) (omega arith) (omega arith)
     ∙ ap (λ (ys : List ℕ). ys ++ coded x) (ap (λ (k : ℕ). take (size_of k) b) (sym l) ∙ h)
     ∙ flat_map_more coded (header rate 0 0) xs x
-
--- the sizes go into the header, and nothing else changes
-pub sized_header : (rate n : ℕ) (rest : List ℕ) → sized (header rate 0 0 ++ rest) n ≡ header rate (size_of n - 8) (4 * n) ++ rest
-sized_header rate n rest = refl
 
 -- the finished bytes are the recording
 pub finishes : (b : List ℕ) (n : ℕ) → size_of n ≤ length b → size_of n ≤ 65536 → Finishes b (sized b n) n

@@ -1,25 +1,20 @@
 -- A whole session: one recording of what a source has left, as far as there is room.
-use Rattle.std.specs.Prelude.{◌≡◌, ℕ, ◌-◌, ◌/◌, ◌≤◌, min, Bool, true, cond, ◌&&◌, List, length, take, drop, Some, None, Ok, Err, Option, Result, nat_le}
+use Rattle.std.specs.Prelude.{◌≡◌, ℕ, ◌-◌, ◌/◌, ◌≤◌, min, Bool, true, cond, ◌&&◌, List, length, take, Some, None, Ok, Err, Option, Result, nat_le}
 use Rattle.samples.specs.declared.converter.ConverterSample.{ConverterSample}
-use Rattle.source.specs.declared.fault.Ending.{Ending}
-use Rattle.source.specs.Streams.{Stream}
+use Rattle.source.specs.Streams.{Ending, Stream, from}
 use Rattle.wave.specs.declared.refusal.OpeningRefusal.{OpeningRefusal}
 use Rattle.recorder.specs.declared.refusal.RewritingRefusal.{RewritingRefusal}
 use Rattle.recorder.specs.declared.refusal.RewritingRefusal.TheVariants.{Opening, Writing}
 use Rattle.recorder.specs.declared.refusal.WritingRefusal.{WritingRefusal}
-use Rattle.recorder.specs.declared.refusal.WritingRefusal.TheVariants.{Buffer, Rate}
+use Rattle.recorder.specs.declared.refusal.WritingRefusal.TheVariants.{Buffer, Full, Rate}
 use Rattle.recorder.specs.declared.session.Part.{Part}
 use Rattle.wave.specs.Bytes.{overwrite}
 use Rattle.recordings.specs.Opening.{Opened, HandsOut}
-use Rattle.recorder.specs.Writing.{size_of, recorded, good_rate, good_buffer}
+use Rattle.recorder.specs.Writing.{size_of, recorded, good_rate, good_buffer, fits}
 
 -- how many samples a buffer of len bytes has room for
 abbrev pub room : ℕ → ℕ
 room len = (len - 44) / 4
-
--- what is left of a stream behind its first n items
-abbrev pub from : {T : Type 0} → ℕ → Stream T → Stream T
-from n s = record { items = drop n s.items; ending = s.ending }
 
 -- how many items of the stream go in
 abbrev pub taken : {T : Type 0} → ℕ → Stream T → ℕ
@@ -49,6 +44,13 @@ left_after_record len rate s = cond (accepted len rate) (from (taken (room len) 
 -- the round trip: the recording, opened, hands out what went in
 abbrev pub ComesBack : ℕ → ℕ → Stream ConverterSample → List ℕ → Type 0
 ComesBack len rate s after = HandsOut (take (size_of (taken (room len) s)) after) rate (take (taken (room len) s) s.items)
+
+-- Writing a list of samples whole: refused as a start is, and where they do not fit. Then nothing changes.
+abbrev pub write_answer : ℕ → ℕ → ℕ → Result ℕ WritingRefusal
+write_answer len rate n = cond (good_rate rate) (cond (good_buffer len) (cond (fits len n) (Ok (size_of n)) (Err Full)) (Err Buffer)) (Err Rate)
+
+abbrev pub after_write : List ℕ → ℕ → List ConverterSample → List ℕ
+after_write b rate xs = cond (accepted (length b) rate && fits (length b) (length xs)) (overwrite 0 (recorded rate xs) b) b
 
 -- Rewriting: what the bytes hold when they are opened is recorded, at the same rate.
 abbrev pub as_writing : Result Part WritingRefusal → Result Part RewritingRefusal

@@ -46,6 +46,10 @@ good_buffer len = nat_le 44 len && nat_le len 65536
 abbrev pub fits : ℕ → ℕ → Bool
 fits len n = nat_le (size_of n) len && nat_le (size_of n) 65536
 
+-- a rate and a buffer of len bytes are accepted; the rate is tested first
+abbrev pub accept_answer : ℕ → ℕ → Result (Unit {0}) WritingRefusal
+accept_answer len rate = cond (good_rate rate) (cond (good_buffer len) (Ok tt) (Err Buffer)) (Err Rate)
+
 -- start
 abbrev pub start_answer : ℕ → ℕ → Result StartedRecording WritingRefusal
 start_answer len rate = cond (good_rate rate) (cond (good_buffer len) (Ok (record { samples = 0 })) (Err Buffer)) (Err Rate)

@@ -5,7 +5,7 @@
 // keeps every byte when it is rewritten.
 #![tactic(auto)]
 
-pub mod encoding;
+mod encoding;
 pub mod refusal;
 pub mod session;
 pub mod started;

@@ -1,6 +1,7 @@
 // Why a recording is not written, or not rewritten.
 ghost use Rattle.std.specs.Prelude.{◌≡◌};
 ghost use Rattle.recorder.specs.Refusals.{writing_number};
+ghost use Rattle.recorder.specs.declared.refusal.RewritingRefusal.TheVariants.{Opening, Writing};
 
 use std::fmt;
 use wave::refusal::OpeningRefusal;
@@ -46,4 +47,20 @@ pub enum RewritingRefusal {
     Opening(OpeningRefusal),
     // The buffer is not written.
     Writing(WritingRefusal),
+}
+
+impl From<OpeningRefusal> for RewritingRefusal {
+    ghost from_gives = { λ refusal r. r ≡ Opening refusal };
+
+    fn from(refusal: OpeningRefusal) -> RewritingRefusal {
+        RewritingRefusal::Opening(refusal)
+    }
+}
+
+impl From<WritingRefusal> for RewritingRefusal {
+    ghost from_gives = { λ refusal r. r ≡ Writing refusal };
+
+    fn from(refusal: WritingRefusal) -> RewritingRefusal {
+        RewritingRefusal::Writing(refusal)
+    }
 }

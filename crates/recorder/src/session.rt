@@ -1,19 +1,19 @@
 // Whole sessions: one recording of what a source has left, and a recording read and rewritten.
-ghost use Rattle.std.specs.Prelude.{◌≡◌, ◌+◌, ◌-◌, ◌≤◌, length, take, IfOk, Ok, Err, MatchResult, OnOk};
+ghost use Rattle.std.specs.Prelude.{◌≡◌, ◌+◌, ◌≤◌, length, take, IfOk, Ok, Err, MatchResult, OnOk};
 ghost use Rattle.std.specs.List.{flat_map};
-ghost use Rattle.source.specs.declared.fault.FaultKind.TheVariants.{LowBits};
+ghost use Rattle.source.specs.Streams.{from};
 ghost use Rattle.wave.specs.Bytes.{overwrite};
-ghost use Rattle.recordings.specs.Items.{held_from, signal_item};
-ghost use Rattle.recordings.specs.Opening.{signal_opening};
-ghost use Rattle.recorder.specs.Sessions.{taken, from, met, record_answer, after_record, left_after_record, ComesBack, rewrite_answer, after_rewrite, GoesOn, Keeps};
+ghost use Rattle.recordings.specs.Opening.{signal_opening, HandsOut};
+ghost use Rattle.recorder.specs.Sessions.{taken, met, record_answer, after_record, left_after_record, ComesBack, write_answer, after_write, rewrite_answer, after_rewrite, GoesOn, Keeps};
 ghost use Rattle.recorder.specs.Writing.{coded, size_of};
 
 use crate::refusal::{RewritingRefusal, WritingRefusal};
-use crate::started::{HEADER, StartedRecording};
+use crate::started::{HEADER, StartedRecording, accept};
 use recordings::layout::Signal;
 use recordings::recording::Recording;
 use samples::converter::ConverterSample;
 use source::fault::Ending;
+use source::listed::Listed;
 use source::source::Source;
 
 // One recording that was written: its length in bytes, how many samples went in, and the source's ending, if it was met
@@ -41,13 +41,10 @@ fn put_all<S: Source<Item = ConverterSample>>(
 {
     for _ in 0..room {
         match source.next() {
-            Ok(item) => match item {
-                Some(sample) => {
-                    let _ = recording.put(bytes, sample);
-                }
-                None => return Some(Ending::Finished),
-            },
-            Err(fault) => return Some(Ending::Faulted(fault)),
+            Ok(Some(sample)) => recording.put(bytes, sample).unwrap(),
+            // Two arms, not one with `map`: each names the ending that was met.
+            Ok(None) => return Some(Ok(())),
+            Err(fault) => return Some(Err(fault)),
         }
     }
     None
@@ -69,22 +66,35 @@ pub fn record<S: Source<Item = ConverterSample>>(
     let mut recording = StartedRecording::start(out, rate)?;
     let room = (out.len() - HEADER) / 4;
     let ending = put_all(&mut recording, source, out, room);
-    match recording.finish(out) {
-        Ok(length) => Ok(Part {
-            length,
-            samples: (length - HEADER) / 4,
-            ending,
-        }),
-        Err(back) => {
-            let (refusal, recording) = back;
-            recording.abandon();
-            Err(refusal)
-        }
+    let length = recording.finish(out).unwrap();
+    Ok(Part {
+        length,
+        samples: (length - HEADER) / 4,
+        ending,
+    })
+}
+
+// Writes the samples as one recording at this rate, and answers its length. Refused as by `start`, or with 15 where they do
+// not fit the buffer; then nothing changes.
+pub fn write(
+    samples: &[ConverterSample],
+    rate: u32,
+    out: &mut [u8],
+) -> Result<usize, WritingRefusal>
+    ensures answer { result ≡ write_answer (length out.old) rate (length samples.now) }
+    ensures bytes { out.new ≡ after_write out.old rate samples.now }
+    ensures opens { OnOk result (HandsOut (take (size_of (length samples.now)) out.new) rate samples.now) }
+{
+    accept(out.len(), rate)?;
+    if samples.len() > (out.len() - HEADER) / 4 {
+        return Err(WritingRefusal::Full);
     }
+    let part = record(&mut Listed::new(samples, Ok(())), rate, out)?;
+    Ok(part.length)
 }
 
 // Opens the bytes as a signal recording with this input number and writes it anew, as far as there is room in the
-// buffer; hands back the recording, to go on with by `record`.
+// buffer; hands back the recording, to go on with by `record`. The input may have any number: who opens the bytes chooses it.
 pub fn rewrite<'a>(
     bytes: &'a [u8],
     input: u8,
@@ -92,18 +102,11 @@ pub fn rewrite<'a>(
 ) -> Result<(Part, Recording<'a, Signal>), RewritingRefusal>
     ensures answer { MatchResult result (λ p. rewrite_answer (length out.old) (signal_opening input bytes.now) ≡ Ok p.0) (λ e. rewrite_answer (length out.old) (signal_opening input bytes.now) ≡ Err e) }
     ensures bytes { out.new ≡ after_rewrite out.old (signal_opening input bytes.now) }
-    ensures onward { IfOk result (λ p. GoesOn (length out.old) (signal_opening input bytes.now) (held_from signal_item 4 LowBits p.1.input 0 p.1.count p.1.data.now) (held_from signal_item 4 LowBits p.1.input p.1.place (p.1.count - p.1.place) p.1.rest.now)) }
+    ensures onward { IfOk result (λ p. GoesOn (length out.old) (signal_opening input bytes.now) (⟦<Recording<'a, Signal> as Source>⟧.whole p.1) (⟦<Recording<'a, Signal> as Source>⟧.left p.1)) }
     ensures keeps { Keeps bytes.now out.old out.new (rewrite_answer (length out.old) (signal_opening input bytes.now)) }
 {
-    match Recording::<Signal>::open(bytes, input) {
-        Ok(opened) => {
-            let mut recording = opened;
-            let rate = recording.rate();
-            match record(&mut recording, rate, out) {
-                Ok(part) => Ok((part, recording)),
-                Err(refusal) => Err(RewritingRefusal::Writing(refusal)),
-            }
-        }
-        Err(refusal) => Err(RewritingRefusal::Opening(refusal)),
-    }
+    let mut recording = Recording::<Signal>::open(bytes, input)?;
+    let rate = recording.rate();
+    let part = record(&mut recording, rate, out)?;
+    Ok((part, recording))
 }

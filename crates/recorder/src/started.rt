@@ -1,21 +1,35 @@
 // Writing a signal recording into a buffer: start, put, finish, abandon.
 ghost use Rattle.std.specs.Prelude.{◌≡◌, [], length, IfOk, OnOk};
 ghost use Rattle.recorder.specs.LetGo.{Overfull};
-ghost use Rattle.recorder.specs.Writing.{start_answer, after_start, put_answer, put_count, after_put, finish_answer, after_finish, Holds, Adds, Finishes};
+ghost use Rattle.recorder.specs.Writing.{accept_answer, start_answer, after_start, put_answer, put_count, after_put, finish_answer, after_finish, Holds, Adds, Finishes};
 
-use crate::encoding::{coded, header, le32, place};
+use crate::encoding::{coded, header, place};
 use crate::refusal::WritingRefusal;
 use samples::converter::ConverterSample;
+use wave::format::MAX_RATE;
 
-pub(crate) const HEADER: usize = 44;
+// The bytes before the samples.
+pub const HEADER: usize = 44;
 
-const MAX_BYTES: usize = 65536;
+// The most bytes that a recording is written with.
+pub const MAX_BYTES: usize = 65536;
 
-const MAX_RATE: u32 = 100_000_000;
+// The rate and a buffer of so many bytes are accepted.
+pub(crate) fn accept(length: usize, rate: u32) -> Result<(), WritingRefusal>
+    ensures { result ≡ accept_answer length rate }
+{
+    if !(1..=MAX_RATE).contains(&rate) {
+        return Err(WritingRefusal::Rate);
+    }
+    if !(HEADER..=MAX_BYTES).contains(&length) {
+        return Err(WritingRefusal::Buffer);
+    }
+    Ok(())
+}
 
-// A started recording: how many samples were put in. Its bytes are lent at each call. It must be finished or abandoned:
-// where a program lets it go, the check asks for a proof that it has as many samples as its count can tell. None has: not
-// when it starts, and no put makes it so.
+// A started recording: how many samples were put in. Its bytes are lent at each call, as it may be another buffer each
+// time. It must be finished or abandoned: where a program lets it go, the check asks for a proof that it has as many samples
+// as its count can tell. None has: not when it starts, and no put makes it so.
 #[derive(Debug)]
 pub struct StartedRecording {
     samples: u32,
@@ -38,12 +52,7 @@ impl StartedRecording {
         ensures holds { OnOk result (Holds bytes.new rate []) }
         ensures short { IfOk result (λ w. ¬ Overfull w) }
     {
-        if rate < 1 || rate > MAX_RATE {
-            return Err(WritingRefusal::Rate);
-        }
-        if bytes.len() < HEADER || bytes.len() > MAX_BYTES {
-            return Err(WritingRefusal::Buffer);
-        }
+        accept(bytes.len(), rate)?;
         place(bytes, 0, &header(rate));
         Ok(StartedRecording { samples: 0 })
     }
@@ -76,8 +85,8 @@ impl StartedRecording {
         if size > bytes.len() || size > MAX_BYTES {
             return Err((WritingRefusal::Full, self));
         }
-        place(bytes, 4, &le32((size - 8) as u32));
-        place(bytes, 40, &le32((size - HEADER) as u32));
+        place(bytes, 4, &(size as u32 - 8).to_le_bytes());
+        place(bytes, 40, &(4 * self.samples).to_le_bytes());
         let StartedRecording { samples: _ } = self;
         Ok(size)
     }

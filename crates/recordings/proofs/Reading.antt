@@ -1,11 +1,10 @@
 -- Reading one item: what is left loses its first.
-use Rattle.std.proofs.Common.{◌≡◌, ℕ, zero, suc, ◌+◌, ◌*◌, min, List, ◌∷◌, length, take, drop, Some, None, Ok, Err, Option, Result, sym, refl, ap, ◌∙◌, ap₂, inl, inr, add-mul, one-mul, zero-mul, arith}
-use Rattle.std.proofs.lemmas.Bool.{cases_lt}
-use Rattle.std.proofs.lemmas.List.{drop-drop, take_all, drop_all}
-use Rattle.source.specs.declared.fault.Fault.{Fault}
+use Rattle.std.proofs.Common.{◌≡◌, ℕ, zero, suc, ◌+◌, ◌-◌, ◌*◌, ◌/◌, ◌<◌, ◌≤◌, List, [], ◌∷◌, length, take, drop, Some, None, Ok, Err, Option, sym, refl, ap, ◌∙◌, ap₂, add-mul, one-mul, zero-mul, arith, length-drop}
+use Rattle.std.proofs.Math.Nat.{div-eq-sub-div, div-eq_of_lt}
+use Rattle.std.proofs.lemmas.List.{drop-drop}
 use Rattle.source.specs.declared.fault.FaultKind.{FaultKind}
 use Rattle.source.specs.Streams.{tabulate, answer, rest}
-use Rattle.recordings.specs.Items.{item_at, before_fault, held_from}
+use Rattle.recordings.specs.Items.{item_at, before_fault, held_from, left_of}
 
 -- the items from the second on are the items of what is behind the first
 shifted : {T : Type 0} (meaning : List ℕ → Option T) (a : ℕ) (d : List ℕ) (j n : ℕ) → tabulate (item_at meaning a d) (j + 1) n ≡ tabulate (item_at meaning a (drop a d)) j n
@@ -23,42 +22,36 @@ peeled meaning a d n m h =
     let xs = shifted meaning a d 0 m in
     ap (λ (k : ℕ). tabulate (item_at meaning a d) 0 k) h ∙ ap₂ (λ (y : Option _) (ys : List (Option _)). y ∷ ys) z xs
 
-module _ {T : Type 0} (meaning : List ℕ → Option T) (a : ℕ) (kind : FaultKind) (input k : ℕ) (d : List ℕ) (n m : ℕ) (h : n ≡ suc m) where
+-- an item less is left, where there is room for one
+fewer : (a : ℕ) (r : List ℕ) → 0 < a → a ≤ length r → length r / a ≡ suc (length (drop a r) / a)
+fewer a r some h = div-eq-sub-div some h ∙ omega (arith, ap (λ (k : ℕ). k / a) (length-drop a r))
+
+-- and an item more is read
+more : (a : ℕ) (d r : List ℕ) → 0 < a → a ≤ length r → length r ≤ length d → (length d - length (drop a r)) / a ≡ (length d - length r) / a + 1
+more a d r some h part =
+    let l : length d - length (drop a r) - a ≡ length d - length r = omega (arith, length-drop a r) in
+    let e : a ≤ length d - length (drop a r) = omega (arith, length-drop a r) in
+    div-eq-sub-div some e ∙ ap (λ (k : ℕ). k / a + 1) l
+
+module _ {T : Type 0} (meaning : List ℕ → Option T) (a : ℕ) (kind : FaultKind) (input : ℕ) (d r : List ℕ) (some : 0 < a) where
+  -- no item is left: that is answered, and nothing moves
+  pub ends : length r < a → (answer (left_of meaning a kind input d r) ≡ Ok None) × (left_of meaning a kind input d r ≡ rest (left_of meaning a kind input d r))
+  ends h =
+      let e : left_of meaning a kind input d r ≡ record { items = []; ending = Ok tt } = ap (λ (k : ℕ). held_from meaning a kind input ((length d - length r) / a) k r) (div-eq_of_lt h) in
+      (ap answer e, e ∙ sym (ap rest e))
+
   -- an item: it is answered, and what is left loses it
-  pub gives : (x : T) → meaning (take a d) ≡ Some x → (answer (held_from meaning a kind input k n d) ≡ Ok (Some x)) × (rest (held_from meaning a kind input k n d) ≡ held_from meaning a kind input (k + 1) m (drop a d))
-  gives x e =
-      let p : tabulate (item_at meaning a d) 0 n ≡ Some x ∷ tabulate (item_at meaning a (drop a d)) 0 m = peeled meaning a d n m h ∙ ap (λ (y : Option T). y ∷ tabulate (item_at meaning a (drop a d)) 0 m) e in
-      (ap (λ (xs : List (Option T)). answer (before_fault kind input k xs)) p, ap (λ (xs : List (Option T)). rest (before_fault kind input k xs)) p)
+  pub gives : (x : T) → a ≤ length r → length r ≤ length d → meaning (take a r) ≡ Some x → (answer (left_of meaning a kind input d r) ≡ Ok (Some x)) × (left_of meaning a kind input d (drop a r) ≡ rest (left_of meaning a kind input d r))
+  gives x h part e =
+      let k = (length d - length r) / a in
+      let m = length (drop a r) / a in
+      let p : tabulate (item_at meaning a r) 0 (length r / a) ≡ Some x ∷ tabulate (item_at meaning a (drop a r)) 0 (length (drop a r) / a) = peeled meaning a r (length r / a) m (fewer a r some h) ∙ ap (λ (y : Option T). y ∷ tabulate (item_at meaning a (drop a r)) 0 m) e in
+      (ap (λ (xs : List (Option T)). answer (before_fault kind input k xs)) p, ap (λ (j : ℕ). held_from meaning a kind input j m (drop a r)) (more a d r some h part) ∙ sym (ap (λ (xs : List (Option T)). rest (before_fault kind input k xs)) p))
 
   -- none: the fault is answered, and nothing moves
-  pub fails : meaning (take a d) ≡ None → (answer (held_from meaning a kind input k n d) ≡ Err (record { kind = kind; input = input; item = k })) × (rest (held_from meaning a kind input k n d) ≡ held_from meaning a kind input k n d)
-  fails e =
-      let p : tabulate (item_at meaning a d) 0 n ≡ None ∷ tabulate (item_at meaning a (drop a d)) 0 m = peeled meaning a d n m h ∙ ap (λ (y : Option T). y ∷ tabulate (item_at meaning a (drop a d)) 0 m) e in
-      (ap (λ (xs : List (Option T)). answer (before_fault kind input k xs)) p, ap (λ (xs : List (Option T)). rest (before_fault kind input k xs)) p ∙ sym (ap (before_fault kind input k) p))
-
--- what split_at gives where the rest may be too short
-pub taken_min : (a : ℕ) (d : List ℕ) → take (min a (length d)) d ≡ take a d
-taken_min a d = elim (cases_lt a (length d)) [
-  | inl h ↦ ap (λ (k : ℕ). take k d) (omega arith)
-  | inr h ↦ take_all (min a (length d)) d (omega arith) ∙ sym (take_all a d h)
-]
-
-pub dropped_min : (a : ℕ) (d : List ℕ) → drop (min a (length d)) d ≡ drop a d
-dropped_min a d = elim (cases_lt a (length d)) [
-  | inl h ↦ ap (λ (k : ℕ). drop k d) (omega arith)
-  | inr h ↦ drop_all (min a (length d)) d (omega arith) ∙ sym (drop_all a d h)
-]
-
--- the item is read from the first bytes of the rest
-pub from_front : {T : Type 0} (meaning : List ℕ → Option T) (a b n : ℕ) (d f : List ℕ) (r : Option T) → b ≡ a → n ≡ min b (length d) → f ≡ take n d → r ≡ meaning f → meaning (take a d) ≡ r
-from_front meaning a b n d f r e k h i =
-    let l : f ≡ take a d = h ∙ ap (λ (j : ℕ). take j d) (k ∙ ap (λ (j : ℕ). min j (length d)) e) ∙ taken_min a d in
-    ap meaning (sym l) ∙ sym i
-
--- and what is behind them is left
-pub from_back : (a b n : ℕ) (d f : List ℕ) → b ≡ a → n ≡ min b (length d) → f ≡ drop n d → f ≡ drop a d
-from_back a b n d f e k h = h ∙ ap (λ (j : ℕ). drop j d) (k ∙ ap (λ (j : ℕ). min j (length d)) e) ∙ dropped_min a d
-
--- a fault of the kind that was named is the one that is answered
-pub told : {T : Type 0} (named kind : FaultKind) (input k : ℕ) (r : Result (Option T) Fault) → named ≡ kind → r ≡ Err (record { kind = kind; input = input; item = k }) → Err (record { kind = named; input = input; item = k }) ≡ r
-told named kind input k r e h = ap (λ (j : FaultKind). Err (record { kind = j; input = input; item = k })) e ∙ sym h
+  pub fails : a ≤ length r → meaning (take a r) ≡ None → (answer (left_of meaning a kind input d r) ≡ Err (record { kind = kind; input = input; item = (length d - length r) / a })) × (left_of meaning a kind input d r ≡ rest (left_of meaning a kind input d r))
+  fails h e =
+      let k = (length d - length r) / a in
+      let m = length (drop a r) / a in
+      let p : tabulate (item_at meaning a r) 0 (length r / a) ≡ None ∷ tabulate (item_at meaning a (drop a r)) 0 (length (drop a r) / a) = peeled meaning a r (length r / a) m (fewer a r some h) ∙ ap (λ (y : Option T). y ∷ tabulate (item_at meaning a (drop a r)) 0 m) e in
+      (ap (λ (xs : List (Option T)). answer (before_fault kind input k xs)) p, ap (before_fault kind input k) p ∙ sym (ap (λ (xs : List (Option T)). rest (before_fault kind input k xs)) p))

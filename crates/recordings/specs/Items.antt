@@ -1,13 +1,11 @@
 -- What the data of a recording holds.
-use Rattle.std.specs.Prelude.{ℕ, ◌+◌, ◌-◌, ◌*◌, ◌%◌, Bool, cond, ◌&&◌, List, [], ◌∷◌, length, take, drop, ℤ, pos, negsuc, Some, None, Option, ◌==◌, nat_le, nat_lt, slice_index}
+use Rattle.std.specs.Prelude.{ℕ, ◌+◌, ◌-◌, ◌*◌, ◌/◌, ◌%◌, Bool, cond, ◌&&◌, List, [], ◌∷◌, length, take, drop, ℤ, pos, negsuc, Some, None, Ok, Err, Option, ◌==◌, nat_le, nat_lt, slice_index}
 use Rattle.samples.specs.Arithmetic.{floor_by}
 use Rattle.samples.specs.Kinds.{converter, gain_index}
 use Rattle.samples.specs.declared.converter.ConverterSample.{ConverterSample}
 use Rattle.samples.specs.declared.gain_index.GainIndex.{GainIndex}
-use Rattle.source.specs.declared.fault.Ending.{Ending}
-use Rattle.source.specs.declared.fault.Ending.TheVariants.{Finished, Faulted}
 use Rattle.source.specs.declared.fault.FaultKind.{FaultKind}
-use Rattle.source.specs.Streams.{Stream, tabulate}
+use Rattle.source.specs.Streams.{Ending, Stream, tabulate}
 use Rattle.wave.specs.Bytes.{u16_at}
 
 -- 16 bits as a signed number
@@ -42,8 +40,8 @@ sound (Some x ∷ xs) = x ∷ sound xs
 
 -- how they end, if the first of them has the place k: where one is missing, with the fault that names it
 abbrev pub ending_of : {T : Type 0} → FaultKind → ℕ → ℕ → List (Option T) → Ending
-ending_of kind input k [] = Finished
-ending_of kind input k (None ∷ xs) = Faulted (record { kind = kind; input = input; item = k })
+ending_of kind input k [] = Ok tt
+ending_of kind input k (None ∷ xs) = Err (record { kind = kind; input = input; item = k })
 ending_of kind input k (Some x ∷ xs) = ending_of kind input (k + 1) xs
 
 abbrev pub before_fault : {T : Type 0} → FaultKind → ℕ → ℕ → List (Option T) → Stream T
@@ -52,3 +50,11 @@ before_fault kind input k xs = record { items = sound xs; ending = ending_of kin
 -- what the first n items of the data d are, if the first of them has the place k
 abbrev pub held_from : {T : Type 0} → (List ℕ → Option T) → ℕ → FaultKind → ℕ → ℕ → ℕ → List ℕ → Stream T
 held_from meaning a kind input k n d = before_fault kind input k (tabulate (item_at meaning a d) 0 n)
+
+-- everything that the data d hold
+abbrev pub whole_of : {T : Type 0} → (List ℕ → Option T) → ℕ → FaultKind → ℕ → List ℕ → Stream T
+whole_of meaning a kind input d = held_from meaning a kind input 0 (length d / a) d
+
+-- what the rest r of the data d holds
+abbrev pub left_of : {T : Type 0} → (List ℕ → Option T) → ℕ → FaultKind → ℕ → List ℕ → List ℕ → Stream T
+left_of meaning a kind input d r = held_from meaning a kind input ((length d - length r) / a) (length r / a) r

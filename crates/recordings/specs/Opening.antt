@@ -2,15 +2,15 @@
 use Rattle.std.specs.Prelude.{◌≡◌, ℕ, ◌/◌, List, take, drop, Ok, Err, Option, Result}
 use Rattle.std.proofs.Common.{lit<}
 use Rattle.samples.specs.declared.converter.ConverterSample.{ConverterSample}
-use Rattle.source.specs.declared.fault.Ending.TheVariants.{Finished}
+use Rattle.samples.specs.declared.gain_index.GainIndex.{GainIndex}
 use Rattle.source.specs.declared.fault.FaultKind.{FaultKind}
-use Rattle.source.specs.declared.fault.FaultKind.TheVariants.{LowBits}
+use Rattle.source.specs.declared.fault.FaultKind.TheVariants.{LowBits, GainOver}
 use Rattle.source.specs.Streams.{Stream}
 use Rattle.wave.specs.declared.chunks.Found.{Found}
 use Rattle.wave.specs.declared.format.Format.{Format}
 use Rattle.wave.specs.declared.refusal.OpeningRefusal.{OpeningRefusal}
 use Rattle.wave.specs.Chunks.{find_data}
-use Rattle.recordings.specs.Items.{held_from, signal_item}
+use Rattle.recordings.specs.Items.{held_from, signal_item, gain_item}
 
 -- an opened recording: its rate, and everything that it holds
 pub record Opened (T : Type 0) : Type 0 where
@@ -40,6 +40,9 @@ signal_opening input b = opening signal_format signal_item LowBits input b
 abbrev pub gain_format : Format
 gain_format = record { channels = 1; align = 1; bits = 8; takes_room = lit< tt }
 
+abbrev pub gain_opening : ℕ → List ℕ → Result (Opened GainIndex) OpeningRefusal
+gain_opening input b = opening gain_format gain_item GainOver input b
+
 -- these bytes, opened, hand out exactly these samples, at this rate, and are finished then
 abbrev pub HandsOut : List ℕ → ℕ → List ConverterSample → Type 0
-HandsOut b rate xs = (input : ℕ) → signal_opening input b ≡ Ok (record { rate = rate; whole = record { items = xs; ending = Finished } })
+HandsOut b rate xs = (input : ℕ) → signal_opening input b ≡ Ok (record { rate = rate; whole = record { items = xs; ending = Ok tt } })

@@ -1,5 +1,5 @@
 // The two kinds of recording: how an item stands in its bytes.
-ghost use Rattle.std.specs.Prelude.{◌≡◌, ℕ, ◌+◌, ◌*◌, List, Option};
+ghost use Rattle.std.specs.Prelude.{◌≡◌, ℕ, List, Option};
 ghost use Rattle.wave.specs.declared.format.Format.{Format};
 ghost use Rattle.source.specs.declared.fault.FaultKind.{FaultKind};
 ghost use Rattle.source.specs.declared.fault.FaultKind.TheVariants.{LowBits, GainOver};
@@ -16,20 +16,18 @@ use wave::format::Format;
 pub trait Layout {
     type Item: Copy;
 
-    ghost fixed: { Format };
+    const FORMAT: Format;
+    // of bytes that hold no item
+    const FAULT: FaultKind;
+
+    ghost FORMAT: { Format };
+
+    ghost FAULT: { FaultKind };
     // the item that these bytes hold, if they hold one
     ghost meaning: { List ℕ → Option Self.Item };
-    // the fault of bytes that hold none
-    ghost spoilt: { FaultKind };
-
-    fn format() -> Format
-        ensures { result ≡ fixed };
 
     fn read(bytes: &[u8]) -> Option<Self::Item>
         ensures { result ≡ meaning bytes.now };
-
-    fn fault() -> FaultKind
-        ensures { result ≡ spoilt };
 }
 
 // A signal recording: two channels, the value of a part in the upper 12 of 16 bits.
@@ -40,88 +38,64 @@ pub struct Signal;
 #[derive(Clone, Copy)]
 pub struct Gains;
 
-// Two bytes, the lower first, as a number.
-fn word_of(low: u8, high: u8) -> u16
-    ensures { result ≡ low + 256 * high }
-{
-    low as u16 + 256 * high as u16
-}
-
 // The upper 12 of 16 bits, as a signed number.
 fn part_of(word: u16) -> i64
     ensures { result ≡ part_of word }
 {
-    let bits = word as i64;
-    if bits < 32768 {
-        bits >> 4
-    } else {
-        (bits - 65536) >> 4
-    }
+    i64::from(word.cast_signed() >> 4)
 }
 
 impl Layout for Signal {
     type Item = ConverterSample;
 
-    ghost fixed = { signal_format };
+    const FORMAT: Format = Format {
+        channels: 2,
+        align: 4,
+        bits: 12,
+    };
+
+    const FAULT: FaultKind = FaultKind::LowBits;
+
+    ghost FORMAT = { signal_format };
+
+    ghost FAULT = { LowBits };
 
     ghost meaning = { signal_item };
 
-    ghost spoilt = { LowBits };
-
-    fn format() -> Format {
-        Format {
-            channels: 2,
-            align: 4,
-            bits: 12,
-        }
-    }
-
     fn read(bytes: &[u8]) -> Option<ConverterSample> {
-        if bytes.len() != 4 {
+        let [re_low, re_high, im_low, im_high] = *bytes else {
             return None;
-        }
-        let re = word_of(bytes[0], bytes[1]);
-        let im = word_of(bytes[2], bytes[3]);
+        };
+        let re = u16::from_le_bytes([re_low, re_high]);
+        let im = u16::from_le_bytes([im_low, im_high]);
         if re % 16 != 0 || im % 16 != 0 {
             return None;
         }
         Some(ConverterSample::new(part_of(re), part_of(im)))
-    }
-
-    fn fault() -> FaultKind {
-        FaultKind::LowBits
     }
 }
 
 impl Layout for Gains {
     type Item = GainIndex;
 
-    ghost fixed = { gain_format };
+    const FORMAT: Format = Format {
+        channels: 1,
+        align: 1,
+        bits: 8,
+    };
+
+    const FAULT: FaultKind = FaultKind::GainOver;
+
+    ghost FORMAT = { gain_format };
+
+    ghost FAULT = { GainOver };
 
     ghost meaning = { gain_item };
 
-    ghost spoilt = { GainOver };
-
-    fn format() -> Format {
-        Format {
-            channels: 1,
-            align: 1,
-            bits: 8,
-        }
-    }
-
     fn read(bytes: &[u8]) -> Option<GainIndex> {
-        if bytes.len() != 1 {
-            return None;
+        match *bytes {
+            [index] if index <= 127 => Some(GainIndex::new(i64::from(index))),
+            _ => None,
         }
-        let index = bytes[0];
-        if index > 127 {
-            return None;
-        }
-        Some(GainIndex::new(index as i64))
-    }
-
-    fn fault() -> FaultKind {
-        FaultKind::GainOver
     }
 }

@@ -1,8 +1,10 @@
 // Opened recordings: WAVE byte strings of 12-bit I/Q samples and of receive gains, as sources.
 //
 // Proved: for every byte string, what opening answers, the rate and everything that the bytes hold, or the refusal; and
-// that an opened recording is a source of exactly those items, which ends with the fault of the first that is spoilt.
+// that an opened recording is a source of exactly those items, which ends with the fault of the first that is spoilt; and
+// the same of both recordings of a link, opened by one call.
 #![tactic(auto)]
 
 pub mod layout;
+pub mod pair;
 pub mod recording;

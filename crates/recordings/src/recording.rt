@@ -1,6 +1,6 @@
 // A recording that was opened: a source of the items in its data.
-ghost use Rattle.std.specs.Prelude.{◌≡◌, ◌-◌, IfOk, Ok, Err, MatchResult};
-ghost use Rattle.recordings.specs.Items.{held_from};
+ghost use Rattle.std.specs.Prelude.{◌≡◌, ◌≤◌, length, IfOk, Ok, Err, MatchResult};
+ghost use Rattle.recordings.specs.Items.{whole_of, left_of};
 ghost use Rattle.recordings.specs.Opening.{opening};
 
 use crate::layout::Layout;
@@ -10,41 +10,33 @@ use std::marker::PhantomData;
 use wave::chunks::{Found, find_data};
 use wave::refusal::OpeningRefusal;
 
-// It has `count` items in its data and stands before item `place`; `rest` is the data from there on.
+// The bytes of all its items, and of those that are left.
 #[derive(Drop)]
 pub struct Recording<'a, L> {
     rate: u32,
+    // Any number: who opens the bytes chooses it.
     input: u8,
-    count: usize,
-    data: &'a [u8],
-    place: usize,
-    rest: &'a [u8],
+    whole: &'a [u8],
+    left: &'a [u8],
     layout: PhantomData<L>,
+    ghost part: { length left.now ≤ length whole.now },
 }
 
 impl<'a, L: Layout> Recording<'a, L> {
     // Opens the bytes as a recording of the kind L; its faults will name it by the input number.
     pub fn open(bytes: &'a [u8], input: u8) -> Result<Self, OpeningRefusal>
-        ensures answer { MatchResult result (λ x. opening L.Layout.fixed L.Layout.meaning L.Layout.spoilt input bytes.now ≡ Ok (record { rate = x.rate; whole = held_from L.Layout.meaning L.Layout.fixed.align L.Layout.spoilt x.input 0 x.count x.data.now })) (λ e. opening L.Layout.fixed L.Layout.meaning L.Layout.spoilt input bytes.now ≡ Err e) }
-        ensures left { IfOk result (λ x. held_from L.Layout.meaning L.Layout.fixed.align L.Layout.spoilt x.input x.place (x.count - x.place) x.rest.now ≡ held_from L.Layout.meaning L.Layout.fixed.align L.Layout.spoilt x.input 0 x.count x.data.now) }
+        ensures answer { MatchResult result (λ x. opening L.FORMAT L.meaning L.FAULT input bytes.now ≡ Ok (record { rate = x.rate; whole = ⟦<Recording<'a, L> as Source>⟧.whole x })) (λ e. opening L.FORMAT L.meaning L.FAULT input bytes.now ≡ Err e) }
+        ensures left { IfOk result (λ x. ⟦<Recording<'a, L> as Source>⟧.left x ≡ ⟦<Recording<'a, L> as Source>⟧.whole x) }
     {
-        let format = L::format();
-        match find_data(bytes, format) {
-            Ok(Found { rate, start, size }) => {
-                let data = &bytes[start..start + size];
-                let count = size / format.align as usize;
-                Ok(Recording {
-                    rate,
-                    input,
-                    count,
-                    data,
-                    place: 0,
-                    rest: data,
-                    layout: PhantomData,
-                })
-            }
-            Err(refusal) => Err(refusal),
-        }
+        let Found { rate, start, size } = find_data(bytes, L::FORMAT)?;
+        let whole = &bytes[start..start + size];
+        Ok(Recording {
+            rate,
+            input,
+            whole,
+            left: whole,
+            layout: PhantomData,
+        })
     }
 
     // The samples a second that the recording was made with.
@@ -58,32 +50,29 @@ impl<'a, L: Layout> Recording<'a, L> {
 impl<'a, L: Layout> Source for Recording<'a, L> {
     type Item = L::Item;
 
-    ghost whole = { λ s. held_from L.Layout.meaning L.Layout.fixed.align L.Layout.spoilt s.input 0 s.count s.data.now };
+    ghost whole = { λ s. whole_of L.meaning L.FORMAT.align L.FAULT s.input s.whole.now };
 
-    ghost left = { λ s. held_from L.Layout.meaning L.Layout.fixed.align L.Layout.spoilt s.input s.place (s.count - s.place) s.rest.now };
+    ghost left = { λ s. left_of L.meaning L.FORMAT.align L.FAULT s.input s.whole.now s.left.now };
 
     fn next(&mut self) -> Result<Option<L::Item>, Fault> {
-        if self.place >= self.count {
+        let align = usize::from(L::FORMAT.align);
+        if self.left.len() < align {
             return Ok(None);
         }
-        let align = L::format().align as usize;
-        let (bytes, rest) = self.rest.split_at(align.min(self.rest.len()));
-        match L::read(bytes) {
-            Some(item) => {
-                self.rest = rest;
-                self.place += 1;
-                Ok(Some(item))
-            }
-            None => Err(Fault {
-                kind: L::fault(),
+        let (bytes, rest) = self.left.split_at(align);
+        let Some(item) = L::read(bytes) else {
+            let item = (self.whole.len() - self.left.len()) / align;
+            return Err(Fault {
+                kind: L::FAULT,
                 input: self.input,
-                item: self.place as u64,
-            }),
-        }
+                item: item as u64,
+            });
+        };
+        self.left = rest;
+        Ok(Some(item))
     }
 
     fn rewind(&mut self) {
-        self.rest = self.data;
-        self.place = 0;
+        self.left = self.whole;
     }
 }

@@ -8,6 +8,7 @@ use Rattle.wave.specs.declared.chunks.Step.{Step}
 use Rattle.wave.specs.declared.chunks.Step.TheVariants as steps
 use Rattle.wave.specs.declared.refusal.OpeningRefusal.{OpeningRefusal}
 use Rattle.wave.specs.declared.refusal.OpeningRefusal.TheVariants.{TooShort, WrongHead, WrongField, DataBeforeFormat}
+use Rattle.wave.specs.declared.refusal.HeadField.TheVariants.{Riff, Length, Wave}
 use Rattle.wave.specs.declared.refusal.Field.TheVariants.{FormatSize, Tag, Channels, Rate, ByteRate, Align, Bits, DataSize}
 use Rattle.wave.specs.Bytes.{u16_at, u32_at}
 
@@ -28,9 +29,9 @@ tested (t ∷ ts) a = cond t.0 (tested ts a) (Err t.1)
 abbrev pub head : List ℕ → List Test
 head b =
     (nat_le 12 (length b), TooShort 0)
-    ∷ (u32_at b 0 == mark (codes "RIFF"), WrongHead 0)
-    ∷ (u32_at b 4 + 8 == length b, WrongHead 4)
-    ∷ (u32_at b 8 == mark (codes "WAVE"), WrongHead 8)
+    ∷ (u32_at b 0 == mark (codes "RIFF"), WrongHead Riff)
+    ∷ (u32_at b 4 + 8 == length b, WrongHead Length)
+    ∷ (u32_at b 8 == mark (codes "WAVE"), WrongHead Wave)
     ∷ []
 
 -- which chunk begins at s

@@ -1,25 +1,15 @@
 // The chunks of a RIFF/WAVE byte string, up to its data.
-ghost use Rattle.std.specs.Prelude.{◌≡◌, ◌+◌, ◌^◌, ◌<◌, ◌≤◌, [], ◌∷◌, length, IfOk, if◌then◌else◌, Some, None, Ok, Err, OnOk};
-ghost use Rattle.wave.specs.Bytes.{u32_at};
-ghost use Rattle.wave.specs.Chunks.{kind_at, chunk_end, tested, head, field_tests, complete, chunk_of, chunk, chunks, find_data};
+ghost use Rattle.std.specs.Prelude.{◌≡◌, ◌+◌, ◌^◌, ◌<◌, ◌≤◌, [], ◌∷◌, ◌==◌, length, IfOk, IfErr, if◌then◌else◌, Some, None, Ok, Err, OnOk};
+ghost use Rattle.wave.specs.Bytes.{u16_at, u32_at};
+ghost use Rattle.wave.specs.declared.refusal.OpeningRefusal.TheVariants.{TooShort, WrongField};
+ghost use Rattle.wave.specs.Chunks.{mark, kind_at, size_at, chunk_end, tested, head, field_tests, complete, chunk_of, chunk, chunks, find_data};
 
 use crate::bytes::{u16_at, u32_at};
-use crate::format::Format;
-use crate::refusal::{Field, OpeningRefusal};
-
-// "RIFF", "WAVE", "fmt " and "data" as 32-bit numbers, the first letter lowest.
-const RIFF: u32 = 0x4646_4952;
-
-const WAVE: u32 = 0x4556_4157;
-
-const FORMAT: u32 = 0x2074_6d66;
-
-const DATA: u32 = 0x6174_6164;
-
-const MAX_RATE: u32 = 100_000_000;
+use crate::format::{Format, MAX_RATE};
+use crate::refusal::{Field, HeadField, OpeningRefusal};
 
 #[derive(Clone, Copy)]
-pub enum ChunkKind {
+enum ChunkKind {
     Format,
     Data,
     Other,
@@ -29,38 +19,17 @@ pub enum ChunkKind {
 #[derive(Clone, Copy)]
 pub struct Found {
     pub rate: u32,
+    // Places, as refusals tell places.
     pub start: usize,
     pub size: usize,
 }
 
-// What one chunk leads to: the next chunk with the rate that is known by then, or the data.
+// What one chunk leads to: the next chunk with the rate that is known by then, or the data. Public, since proofs that
+// written bytes open go by it. Not ControlFlow, which names no chunk and no data.
 #[derive(Clone, Copy)]
 pub enum Step {
     Onward(usize, Option<u32>),
     Data(Found),
-}
-
-fn kind_at(bytes: &[u8], at: usize) -> ChunkKind
-    requires { at + 4 ≤ length bytes.now }
-    ensures { result ≡ kind_at bytes.now at }
-{
-    let name = u32_at(bytes, at);
-    if name == FORMAT {
-        ChunkKind::Format
-    } else if name == DATA {
-        ChunkKind::Data
-    } else {
-        ChunkKind::Other
-    }
-}
-
-// Where the next chunk begins: past the head, the content and the pad byte that follows an odd size.
-fn chunk_end(bytes: &[u8], at: usize) -> usize
-    requires { (at + 8 ≤ length bytes.now) × (length bytes.now < 2 ^ 33) }
-    ensures { result ≡ chunk_end bytes.now at }
-{
-    let size = u32_at(bytes, at + 4) as usize;
-    at + 8 + size + size % 2
 }
 
 // One test: the refusal where it fails.
@@ -70,114 +39,158 @@ fn require(passes: bool, refusal: OpeningRefusal) -> Result<(), OpeningRefusal>
     if passes { Ok(()) } else { Err(refusal) }
 }
 
+// The four letters stand at place `at`.
+fn is_marked(bytes: &[u8], at: usize, letters: &[u8; 4]) -> bool
+    requires { at + 4 ≤ length bytes.now }
+    ensures { result ≡ (u32_at bytes.now at == mark letters.now) }
+{
+    u32_at(bytes, at) == u32_at(letters, 0)
+}
+
+// What it promises of the length is asked of the walk and its steps below; a chunk carries it from there.
 fn check_head(bytes: &[u8]) -> Result<(), OpeningRefusal>
     ensures answer { result ≡ tested (head bytes.now) (Ok tt) }
     ensures length { OnOk result ((12 ≤ length bytes.now) × (length bytes.now < 2 ^ 33)) }
 {
     require(bytes.len() >= 12, OpeningRefusal::TooShort(0))?;
-    require(u32_at(bytes, 0) == RIFF, OpeningRefusal::WrongHead(0))?;
+    require(
+        is_marked(bytes, 0, b"RIFF"),
+        OpeningRefusal::WrongHead(HeadField::Riff),
+    )?;
     require(
         u32_at(bytes, 4) as usize + 8 == bytes.len(),
-        OpeningRefusal::WrongHead(4),
+        OpeningRefusal::WrongHead(HeadField::Length),
     )?;
-    require(u32_at(bytes, 8) == WAVE, OpeningRefusal::WrongHead(8))
+    require(
+        is_marked(bytes, 8, b"WAVE"),
+        OpeningRefusal::WrongHead(HeadField::Wave),
+    )
 }
 
-// The chunk at `at` lies within the bytes: answers where it ends.
-fn complete(bytes: &[u8], at: usize) -> Result<usize, OpeningRefusal>
-    requires { (at + 8 ≤ length bytes.now) × (length bytes.now < 2 ^ 33) }
-    ensures { result ≡ tested (complete bytes.now at ∷ []) (Ok (chunk_end bytes.now at)) }
-{
-    let end = chunk_end(bytes, at);
-    require(end <= bytes.len(), OpeningRefusal::TooShort(at))?;
-    Ok(end)
+// The chunk that begins at `at`. Its head lies within the bytes; its content may go beyond them.
+#[derive(Clone, Copy)]
+struct Chunk<'a> {
+    bytes: &'a [u8],
+    at: usize,
+    ghost head_within: { at + 8 ≤ length bytes.now },
+    ghost few_bytes: { length bytes.now < 2 ^ 33 },
 }
 
-// The fields of a format chunk that is complete: answers the rate.
-fn check_fields(bytes: &[u8], at: usize, format: Format) -> Result<u32, OpeningRefusal>
-    requires { (at + 24 ≤ length bytes.now) × (length bytes.now < 2 ^ 33) }
-    ensures { result ≡ tested (field_tests format bytes.now at) (Ok (u32_at bytes.now (at + 12))) }
-{
-    let rate = u32_at(bytes, at + 12);
-    require(
-        u16_at(bytes, at + 8) == 1,
-        OpeningRefusal::WrongField(Field::Tag, at + 8),
-    )?;
-    require(
-        u16_at(bytes, at + 10) == format.channels,
-        OpeningRefusal::WrongField(Field::Channels, at + 10),
-    )?;
-    require(
-        rate >= 1 && rate <= MAX_RATE,
-        OpeningRefusal::WrongField(Field::Rate, at + 12),
-    )?;
-    let byte_rate = u64::from(rate) * u64::from(format.align);
-    require(
-        u64::from(u32_at(bytes, at + 16)) == byte_rate,
-        OpeningRefusal::WrongField(Field::ByteRate, at + 16),
-    )?;
-    require(
-        u16_at(bytes, at + 20) == format.align,
-        OpeningRefusal::WrongField(Field::Align, at + 20),
-    )?;
-    require(
-        u16_at(bytes, at + 22) == format.bits,
-        OpeningRefusal::WrongField(Field::Bits, at + 22),
-    )?;
-    Ok(rate)
+impl<'a> Chunk<'a> {
+    fn at(bytes: &'a [u8], at: usize) -> Result<Chunk<'a>, OpeningRefusal>
+        requires { (at ≤ length bytes.now) × (length bytes.now < 2 ^ 33) }
+        ensures here { IfOk result (λ c. (c.bytes.now ≡ bytes.now) × (c.at ≡ at)) }
+        ensures cut { IfErr result (λ e. (e ≡ TooShort at) × (length bytes.now < at + 8)) }
+    {
+        if at + 8 > bytes.len() {
+            return Err(OpeningRefusal::TooShort(at));
+        }
+        Ok(Chunk { bytes, at })
+    }
+
+    fn kind(&self) -> ChunkKind
+        ensures { result ≡ kind_at self.now.bytes.now self.now.at }
+    {
+        if is_marked(self.bytes, self.at, b"fmt ") {
+            ChunkKind::Format
+        } else if is_marked(self.bytes, self.at, b"data") {
+            ChunkKind::Data
+        } else {
+            ChunkKind::Other
+        }
+    }
+
+    // The size of the content, as the head tells it.
+    fn size(&self) -> u32
+        ensures { result ≡ size_at self.now.bytes.now self.now.at }
+    {
+        u32_at(self.bytes, self.at + 4)
+    }
+
+    // Where it ends: behind the content, and the pad byte that follows an odd size. All of it lies within the bytes.
+    fn end(&self) -> Result<usize, OpeningRefusal>
+        ensures { result ≡ tested (complete self.now.bytes.now self.now.at ∷ []) (Ok (chunk_end self.now.bytes.now self.now.at)) }
+    {
+        let size = self.size() as usize;
+        let end = self.at + 8 + size + size % 2;
+        require(end <= self.bytes.len(), OpeningRefusal::TooShort(self.at))?;
+        Ok(end)
+    }
+
+    // One test of the field at this offset.
+    fn require(&self, passes: bool, field: Field, offset: usize) -> Result<(), OpeningRefusal>
+        requires { offset < 2 ^ 8 }
+        ensures { result ≡ (if passes then Ok tt else Err (WrongField field (self.now.at + offset))) }
+    {
+        require(passes, OpeningRefusal::WrongField(field, self.at + offset))
+    }
+
+    // The fields of a format chunk: answers the rate.
+    fn format_fields(&self, format: Format) -> Result<u32, OpeningRefusal>
+        requires { self.now.at + 24 ≤ length self.now.bytes.now }
+        ensures { result ≡ tested (field_tests format self.now.bytes.now self.now.at) (Ok (u32_at self.now.bytes.now (self.now.at + 12))) }
+    {
+        let tag = u16_at(self.bytes, self.at + 8);
+        self.require(tag == 1, Field::Tag, 8)?;
+        let channels = u16_at(self.bytes, self.at + 10);
+        self.require(channels == format.channels, Field::Channels, 10)?;
+        let rate = u32_at(self.bytes, self.at + 12);
+        self.require((1..=MAX_RATE).contains(&rate), Field::Rate, 12)?;
+        let byte_rate = u32_at(self.bytes, self.at + 16);
+        self.require(
+            u64::from(byte_rate) == u64::from(rate) * u64::from(format.align),
+            Field::ByteRate,
+            16,
+        )?;
+        let align = u16_at(self.bytes, self.at + 20);
+        self.require(align == format.align, Field::Align, 20)?;
+        let bits = u16_at(self.bytes, self.at + 22);
+        self.require(bits == format.bits, Field::Bits, 22)?;
+        Ok(rate)
+    }
+
+    // The first format chunk.
+    fn format(&self, format: Format) -> Result<Step, OpeningRefusal>
+        ensures { result ≡ chunk_of ChunkKind.Format format self.now.bytes.now self.now.at None }
+    {
+        self.require(self.size() == 16, Field::FormatSize, 4)?;
+        let end = self.end()?;
+        let rate = self.format_fields(format)?;
+        Ok(Step::Onward(end, Some(rate)))
+    }
+
+    // The data chunk behind a format.
+    fn data(&self, format: Format, rate: u32) -> Result<Step, OpeningRefusal>
+        ensures { result ≡ chunk_of ChunkKind.Data format self.now.bytes.now self.now.at (Some rate) }
+    {
+        let size = self.size();
+        self.require(size % u32::from(format.align) == 0, Field::DataSize, 4)?;
+        self.end()?;
+        Ok(Step::Data(Found {
+            rate,
+            start: self.at + 8,
+            size: size as usize,
+        }))
+    }
 }
 
-// The first format chunk.
-fn format_chunk(bytes: &[u8], at: usize, format: Format) -> Result<Step, OpeningRefusal>
-    requires { (at + 8 ≤ length bytes.now) × (length bytes.now < 2 ^ 33) }
-    ensures { result ≡ chunk_of ChunkKind.Format format bytes.now at None }
-{
-    require(
-        u32_at(bytes, at + 4) == 16,
-        OpeningRefusal::WrongField(Field::FormatSize, at + 4),
-    )?;
-    let end = complete(bytes, at)?;
-    let rate = check_fields(bytes, at, format)?;
-    Ok(Step::Onward(end, Some(rate)))
-}
-
-// The data chunk behind a format.
-fn data_chunk(bytes: &[u8], at: usize, format: Format, rate: u32) -> Result<Step, OpeningRefusal>
-    requires { (at + 8 ≤ length bytes.now) × (length bytes.now < 2 ^ 33) }
-    ensures { result ≡ chunk_of ChunkKind.Data format bytes.now at (Some rate) }
-{
-    let size = u32_at(bytes, at + 4);
-    require(
-        size % u32::from(format.align) == 0,
-        OpeningRefusal::WrongField(Field::DataSize, at + 4),
-    )?;
-    complete(bytes, at)?;
-    Ok(Step::Data(Found {
-        rate,
-        start: at + 8,
-        size: size as usize,
-    }))
-}
-
-// A chunk that is passed over: an unknown one, or a format after the first.
-fn passed_chunk(bytes: &[u8], at: usize, rate: Option<u32>) -> Result<Step, OpeningRefusal>
-    requires { (at + 8 ≤ length bytes.now) × (length bytes.now < 2 ^ 33) }
-    ensures { result ≡ tested (complete bytes.now at ∷ []) (Ok (Step.Onward (chunk_end bytes.now at) rate)) }
-{
-    let end = complete(bytes, at)?;
-    Ok(Step::Onward(end, rate))
-}
-
-fn chunk(bytes: &[u8], at: usize, format: Format, rate: Option<u32>) -> Result<Step, OpeningRefusal>
+// What the chunk at `at` leads to, where this rate is known from a format before it. Other chunks, and a format after the
+// first, are passed over.
+fn next_step(
+    bytes: &[u8],
+    at: usize,
+    format: Format,
+    rate: Option<u32>,
+) -> Result<Step, OpeningRefusal>
     requires { (at ≤ length bytes.now) × (length bytes.now < 2 ^ 33) }
     ensures { result ≡ chunk format bytes.now at rate }
 {
-    require(at + 8 <= bytes.len(), OpeningRefusal::TooShort(at))?;
-    match (kind_at(bytes, at), rate) {
-        (ChunkKind::Format, None) => format_chunk(bytes, at, format),
+    let chunk = Chunk::at(bytes, at)?;
+    match (chunk.kind(), rate) {
+        (ChunkKind::Format, None) => chunk.format(format),
         (ChunkKind::Data, None) => Err(OpeningRefusal::DataBeforeFormat(at)),
-        (ChunkKind::Data, Some(known)) => data_chunk(bytes, at, format, known),
-        _ => passed_chunk(bytes, at, rate),
+        (ChunkKind::Data, Some(known)) => chunk.data(format, known),
+        _ => Ok(Step::Onward(chunk.end()?, rate)),
     }
 }
 
@@ -189,14 +202,14 @@ fn walk(bytes: &[u8], format: Format) -> Result<Found, OpeningRefusal>
 {
     let mut at = 12;
     let mut rate = None;
+    // No `for`: each chunk tells where the next begins.
     loop {
-        match chunk(bytes, at, format, rate) {
-            Ok(Step::Onward(next, known)) => {
+        match next_step(bytes, at, format, rate)? {
+            Step::Onward(next, known) => {
                 at = next;
                 rate = known;
             }
-            Ok(Step::Data(found)) => return Ok(found),
-            Err(refusal) => return Err(refusal),
+            Step::Data(found) => return Ok(found),
         }
     }
 }

@@ -4,7 +4,7 @@
 // or which refusal is answered with which byte place, the tests being made in byte order.
 #![tactic(auto)]
 
-pub mod bytes;
+mod bytes;
 pub mod chunks;
 pub mod format;
 pub mod refusal;

@@ -1,6 +1,6 @@
 // Why bytes are not opened.
 ghost use Rattle.std.specs.Prelude.{◌≡◌};
-ghost use Rattle.wave.specs.Refusals.{opening_number, opening_place};
+ghost use Rattle.wave.specs.Refusals.{head_place, opening_number, opening_place};
 
 use std::fmt;
 
@@ -17,13 +17,34 @@ pub enum Field {
     DataSize,
 }
 
-// Why bytes are no recording; each holds the place of the byte where the refused head, chunk or field begins.
+// What the head holds.
+#[derive(Clone, Copy, PartialEq, Eq, Debug)]
+pub enum HeadField {
+    Riff,
+    Length,
+    Wave,
+}
+
+impl HeadField {
+    // Where it begins.
+    fn place(self) -> usize
+        ensures { result ≡ head_place self }
+    {
+        match self {
+            HeadField::Riff => 0,
+            HeadField::Length => 4,
+            HeadField::Wave => 8,
+        }
+    }
+}
+
+// Why bytes are no recording. Behind the head each holds the place of the byte where the refused chunk or field begins.
 #[derive(Clone, Copy, PartialEq, Eq, Debug)]
 pub enum OpeningRefusal {
     // Fewer bytes than the head, a chunk's head or a chunk needs.
     TooShort(usize),
     // A wrong mark or length in the head.
-    WrongHead(usize),
+    WrongHead(HeadField),
     // A field of the format, or the data's size, is not as the kind of recording has it.
     WrongField(Field, usize),
     // The data stands before the format.
@@ -48,10 +69,20 @@ impl OpeningRefusal {
         ensures { result ≡ opening_place self }
     {
         match self {
-            OpeningRefusal::TooShort(at) => at,
-            OpeningRefusal::WrongHead(at) => at,
-            OpeningRefusal::WrongField(_, at) => at,
-            OpeningRefusal::DataBeforeFormat(at) => at,
+            OpeningRefusal::WrongHead(field) => field.place(),
+            OpeningRefusal::TooShort(at)
+            | OpeningRefusal::DataBeforeFormat(at)
+            | OpeningRefusal::WrongField(_, at) => at,
+        }
+    }
+}
+
+impl fmt::Display for HeadField {
+    fn fmt<W: fmt::Write>(&self, f: &mut fmt::Formatter<W>) -> fmt::Result {
+        match *self {
+            HeadField::Riff => write!(f, "it does not begin with RIFF"),
+            HeadField::Length => write!(f, "the RIFF length is not the number of bytes less 8"),
+            HeadField::Wave => write!(f, "the RIFF form is not WAVE"),
         }
     }
 }
@@ -90,12 +121,7 @@ impl fmt::Display for OpeningRefusal {
     fn fmt<W: fmt::Write>(&self, f: &mut fmt::Formatter<W>) -> fmt::Result {
         match *self {
             OpeningRefusal::TooShort(_) => write!(f, "the bytes end too early"),
-            OpeningRefusal::WrongHead(0) => write!(f, "it does not begin with RIFF"),
-            OpeningRefusal::WrongHead(4) => write!(
-                f,
-                "the RIFF length is not the number of bytes less 8"
-            ),
-            OpeningRefusal::WrongHead(_) => write!(f, "the RIFF form is not WAVE"),
+            OpeningRefusal::WrongHead(field) => write!(f, "{field}"),
             OpeningRefusal::WrongField(field, _) => write!(f, "{field}"),
             OpeningRefusal::DataBeforeFormat(_) => write!(f, "the data stands before the format"),
         }

@@ -1,38 +1,18 @@
-use Rattle.std.proofs.Common.{◌≡◌, ℕ, ◌-◌, ◌/◌, length, Ok, sym, ap, ◌∙◌, ap₂, arith}
-use Rattle.recorder.specs.Sessions.{room, taken}
-use Rattle.recorder.specs.Writing.{size_of}
-use Rattle.recorder.proofs.Sittings.{session, one_length, not_refused}
+use Rattle.std.proofs.Common.{ℕ, ◌-◌, ◌/◌, length, sym, ap, ◌∙◌}
+use Rattle.recorder.proofs.Sittings.{Session, session}
 use Rattle.recorder.proofs.session.record.Goals as goal
+use Rattle.recorder.proofs.session.record.Goals.{After-unwrap-length}
 
-pub overflow_sub-result : goal.overflow_sub-result
-overflow_sub-result g c =
-    let x = session c.args.out.now c.args.rate (g.S.Source.left c.args.source.now) c.in_ok-recording.recording c.start.new.bytes ((length c.start.new.bytes - 44) / 4)
-    c.put_all-ending.result c.put_all-ending.new.recording c.put_all-ending.new.bytes c.finish.result c.finish.new.bytes
+-- what its calls come to
+sat : (g : _) (c : After-unwrap-length g) → Session c.args.out.now c.args.rate (g.S.Source.left c.args.source.now) c.finish.new.bytes
+sat g c =
+    session c.args.out.now c.args.rate (g.S.Source.left c.args.source.now) c.in_ok-recording.recording c.put_all-ending.new.recording
+    ((length c.start.new.bytes - 44) / 4) c.start.new.bytes c.put_all-ending.new.bytes c.finish.new.bytes
     (sym c.in_ok-recording.was ∙ c.start.ensures.answer) c.start.ensures.bytes (ap (λ (k : ℕ). (k - 44) / 4) c.start.auto.bytes)
-    c.put_all-ending.ensures.answer c.put_all-ending.ensures.count c.put_all-ending.ensures.bytes c.finish.ensures.answer c.finish.ensures.bytes in
-    let e : c.in-Ok.length ≡ size_of (taken (room (length c.args.out.now)) (g.S.Source.left c.args.source.now)) = one_length c.finish.result _ _ c.in-Ok.is x.finished in
-    omega arith
+    c.put_all-ending.ensures.count c.put_all-ending.ensures.bytes c.finish.ensures.bytes
 
-pub returns-in-Ok : goal.returns-in-Ok
-returns-in-Ok g c =
-    let x = session c.args.out.now c.args.rate (g.S.Source.left c.args.source.now) c.in_ok-recording.recording c.start.new.bytes ((length c.start.new.bytes - 44) / 4)
-    c.put_all-ending.result c.put_all-ending.new.recording c.put_all-ending.new.bytes c.finish.result c.finish.new.bytes
-    (sym c.in_ok-recording.was ∙ c.start.ensures.answer) c.start.ensures.bytes (ap (λ (k : ℕ). (k - 44) / 4) c.start.auto.bytes)
-    c.put_all-ending.ensures.answer c.put_all-ending.ensures.count c.put_all-ending.ensures.bytes c.finish.ensures.answer c.finish.ensures.bytes in
-    let e : c.in-Ok.length ≡ size_of (taken (room (length c.args.out.now)) (g.S.Source.left c.args.source.now)) = one_length c.finish.result _ _ c.in-Ok.is x.finished in
-    let n : (c.in-Ok.length - 44) / 4 ≡ taken (room (length c.args.out.now)) (g.S.Source.left c.args.source.now) = omega arith in
-    record {
-      answer = ap₂ (λ (l m : ℕ). Ok (record { length = l; samples = m; ending = c.put_all-ending.result })) e n ∙ x.answer;
-      bytes = x.bytes;
-      left = c.put_all-ending.ensures.left ∙ x.left;
-      whole = c.put_all-ending.ensures.whole;
-      opens = x.opens;
-    }
+pub returns-clause-bytes : goal.returns-clause-bytes
+returns-clause-bytes g c = (sat g c).bytes
 
-pub returns-in-Err : goal.returns-in-Err
-returns-in-Err g c =
-    let x = session c.args.out.now c.args.rate (g.S.Source.left c.args.source.now) c.in_ok-recording.recording c.start.new.bytes ((length c.start.new.bytes - 44) / 4)
-    c.put_all-ending.result c.put_all-ending.new.recording c.put_all-ending.new.bytes c.finish.result c.finish.new.bytes
-    (sym c.in_ok-recording.was ∙ c.start.ensures.answer) c.start.ensures.bytes (ap (λ (k : ℕ). (k - 44) / 4) c.start.auto.bytes)
-    c.put_all-ending.ensures.answer c.put_all-ending.ensures.count c.put_all-ending.ensures.bytes c.finish.ensures.answer c.finish.ensures.bytes in
-    not_refused c.finish.result _ c.in-Err.back x.finished c.in-Err.is
+pub returns-clause-opens : goal.returns-clause-opens
+returns-clause-opens g c = (sat g c).opens

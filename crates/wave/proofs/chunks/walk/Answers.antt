@@ -1,40 +1,44 @@
-use Rattle.std.proofs.Common.{◌≡◌, length, Ok, sym, refl, ◌∙◌, arith}
+use Rattle.std.proofs.Common.{◌≡◌, length, Ok, sym, refl, ap, ◌∙◌, arith}
+use Rattle.std.proofs.lemmas.Result.{err_from_is_err_and}
 use Rattle.wave.specs.declared.chunks.Step.TheVariants as steps
 use Rattle.wave.specs.Chunks.{chunk}
 use Rattle.wave.proofs.Walks.{inside, goes_on}
 use Rattle.wave.proofs.chunks.walk.Goals as goal
 
 pub loop-next-init : goal.loop-next-init
-loop-next-init c = (c.requires.0, c.requires.1, (length c.args.bytes.now, (omega arith, refl)))
+loop-next-init c =
+    record {
+      within = c.requires.0;
+      few_bytes = c.requires.1;
+      as_all = record { n = length c.args.bytes.now; enough = omega arith; answer = refl };
+    }
 
--- what the chunk said, where it leads onward
-onward : (c : goal.In-Ok-Onward) → chunk c.args.format c.args.bytes.now c.loop-next.at c.loop-next.rate ≡ Ok (steps.Onward c.in-Ok-Onward.next c.in-Ok-Onward.known)
-onward c = let w = c.in-Ok-Onward.ensures in cc
+-- the chunk at hand led onward
+onward : (c : goal.In-Onward) → chunk c.args.format c.args.bytes.now c.loop-next.at c.loop-next.rate ≡ Ok (steps.Onward c.in-Onward.next c.in-Onward.known)
+onward c = sym c.next_step.ensures ∙ c.in_ok-next.was ∙ ap Ok c.in-Onward.is
 
 pub loop-next-smaller : goal.loop-next-smaller
 loop-next-smaller c =
-    let i = inside c.args.format c.args.bytes.now c.loop-next.at c.loop-next.rate (steps.Onward c.in-Ok-Onward.next c.in-Ok-Onward.known) (onward c) in
+    let i = inside c.args.format c.args.bytes.now c.loop-next.at c.loop-next.rate (steps.Onward c.in-Onward.next c.in-Onward.known) (onward c) in
     omega (arith, i.0, i.1)
 
 pub loop-next-preserved : goal.loop-next-preserved
 loop-next-preserved c =
-    let i = inside c.args.format c.args.bytes.now c.loop-next.at c.loop-next.rate (steps.Onward c.in-Ok-Onward.next c.in-Ok-Onward.known) (onward c) in
-    let v = c.loop-next.invariant.2 in
-    let g = (goes_on c.args.format c.args.bytes.now v.0 c.loop-next.at c.loop-next.rate v.1.0).on c.in-Ok-Onward.next c.in-Ok-Onward.known (onward c) in
-    (i.1, c.loop-next.invariant.1, (g.0, (g.1.0, sym g.1.1 ∙ v.1.1)))
+    let i = inside c.args.format c.args.bytes.now c.loop-next.at c.loop-next.rate (steps.Onward c.in-Onward.next c.in-Onward.known) (onward c) in
+    let w = goes_on c.args.format c.args.bytes.now _ c.loop-next.at c.loop-next.rate c.loop-next.invariant.as_all in
+    record {
+      within = i.1;
+      few_bytes = c.loop-next.invariant.few_bytes;
+      as_all = w.on c.in-Onward.next c.in-Onward.known (onward c);
+    }
 
-pub returns-in-Ok-Data : goal.returns-in-Ok-Data
-returns-in-Ok-Data c =
-    let w = c.in-Ok-Data.ensures in
-    let e : chunk c.args.format c.args.bytes.now c.loop-next.at c.loop-next.rate ≡ Ok (steps.Data c.in-Ok-Data.found) = cc in
-    let i = inside c.args.format c.args.bytes.now c.loop-next.at c.loop-next.rate (steps.Data c.in-Ok-Data.found) e in
-    let v = c.loop-next.invariant.2 in
-    let g = (goes_on c.args.format c.args.bytes.now v.0 c.loop-next.at c.loop-next.rate v.1.0).found c.in-Ok-Data.found e in
-    record { answer = sym g ∙ v.1.1; inside = i }
+pub returns-in_err-next-clause-answer : goal.returns-in_err-next-clause-answer
+returns-in_err-next-clause-answer c =
+    let w = goes_on c.args.format c.args.bytes.now _ c.loop-next.at c.loop-next.rate c.loop-next.invariant.as_all in
+    let p = err_from_is_err_and c.from_residual.result c.from_residual.ensures.1 in
+    rw (p.1, p.2) (w.refused _ (sym c.next_step.ensures ∙ c.in_err-next.was))
 
-pub returns-in-Err : goal.returns-in-Err
-returns-in-Err c =
-    let e = sym c.in-Err.ensures in
-    let v = c.loop-next.invariant.2 in
-    let g = (goes_on c.args.format c.args.bytes.now v.0 c.loop-next.at c.loop-next.rate v.1.0).one c.in-Err.refusal e in
-    record { answer = sym g ∙ v.1.1; inside = tt }
+pub returns-in-Data-clause-answer : goal.returns-in-Data-clause-answer
+returns-in-Data-clause-answer c =
+    let w = goes_on c.args.format c.args.bytes.now _ c.loop-next.at c.loop-next.rate c.loop-next.invariant.as_all in
+    w.found c.in-Data.found (sym c.next_step.ensures ∙ c.in_ok-next.was ∙ ap Ok c.in-Data.is)

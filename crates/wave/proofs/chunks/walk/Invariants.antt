@@ -1,12 +1,15 @@
-use Rattle.std.proofs.Common.{◌≡◌, ℕ, ◌+◌, ◌-◌, ◌*◌, ◌^◌, ◌<◌, ◌≤◌, length, None}
+use Rattle.std.proofs.Common.{◌-◌, ◌^◌, ◌<◌, ◌≤◌, length, None}
 use Rattle.wave.specs.Chunks.{chunks}
+use Rattle.wave.proofs.Walks.{Walking}
 use Rattle.wave.proofs.chunks.walk.Given as goal
 
--- the chunks from here on answer what all chunks answer
 abbrev pub invariant-loop-next : goal.invariant-loop-next
 invariant-loop-next l =
-    (l.at ≤ length l.bytes) × (length l.bytes < 2 ^ 33)
-    × ((n : ℕ) × ((length l.bytes ≤ l.at + 8 * n) × (chunks l.format l.bytes n l.at l.rate ≡ chunks l.format l.bytes (length l.bytes) 12 None)))
+    record {
+      within : l.at ≤ length l.bytes;
+      few_bytes : length l.bytes < 2 ^ 33;
+      as_all : Walking l.format l.bytes (chunks l.format l.bytes (length l.bytes) 12 None) l.at l.rate;
+    }
 
 abbrev pub decreases-loop-next : goal.decreases-loop-next
 decreases-loop-next l = length l.bytes - l.at

@@ -1,36 +1,42 @@
-use Rattle.std.proofs.Common.{◌≡◌, suc, ◌+◌, ◌-◌, sym, refl, ap, ◌∙◌, arith}
+use Rattle.std.proofs.Common.{◌≡◌, ℕ, ◌-◌, ◌/◌, length, take, drop, Some, None, Err, sym, refl, ap, ◌∙◌, ap₂, arith}
 use Rattle.wave.specs.declared.format.Format.{Format}
-use Rattle.recordings.specs.Items.{held_from}
-use Rattle.recordings.proofs.Reading.{gives, fails, from_front, from_back, told}
+use Rattle.source.specs.declared.fault.FaultKind.{FaultKind}
+use Rattle.recordings.specs.Items.{left_of}
+use Rattle.recordings.proofs.Reading.{ends, gives, fails}
 use Rattle.recordings.proofs.recording.RecordingSource.next.Goals as goal
 
-pub returns-in-Some : goal.returns-in-Some
-returns-in-Some g c =
-    let meaning = g.L.Layout.meaning in
-    let a = g.L.Layout.fixed.align in
+pub returns-then-self-align : goal.returns-then-self-align
+returns-then-self-align g c =
     let s = c.args.self.now in
-    let f : c.format-align.result.align ≡ a = ap (λ (x : Format). x.align) c.format-align.ensures in
-    let e = from_front meaning a c.format-align.result.align c.min.result s.rest.now c.split_at.result.0.now c.read.result f c.min.ensures c.split_at.ensures.front c.read.ensures in
-    let b = from_back a c.format-align.result.align c.min.result s.rest.now c.split_at.result.1.now f c.min.ensures c.split_at.ensures.back in
-    let h : s.count - s.place ≡ suc (s.count - (s.place + 1)) = omega arith in
-    let p = gives meaning a g.L.Layout.spoilt s.input s.place s.rest.now (s.count - s.place) (s.count - (s.place + 1)) h c.in-Some.item (e ∙ c.in-Some.is) in
+    let f = g.L.Layout.FORMAT in
+    let n : c.from-align.result ≡ g.L.Layout.FORMAT.align = c.from-align.ensures ∙ ap (λ (x : Format). x.align) c.FORMAT.ensures in
+    let p = ends g.L.Layout.meaning f.align g.L.Layout.FAULT s.input s.whole.now s.left.now f.takes_room (omega arith) in
+    record { answers = sym p.0; moves = p.1; same = refl }
+
+pub returns-in_default : goal.returns-in_default
+returns-in_default g c =
+    let s = c.args.self.now in
+    let f = g.L.Layout.FORMAT in
+    let n : c.from-align.result ≡ g.L.Layout.FORMAT.align = c.from-align.ensures ∙ ap (λ (x : Format). x.align) c.FORMAT.ensures in
+    let e : g.L.Layout.meaning (take g.L.Layout.FORMAT.align c.args.self.now.left.now) ≡ None =
+    ap g.L.Layout.meaning (ap (λ (k : ℕ). take k s.left.now) (sym n) ∙ sym c.split_at.ensures.front) ∙ sym c.read.ensures ∙ c.in_default.is in
+    let p = fails g.L.Layout.meaning f.align g.L.Layout.FAULT s.input s.whole.now s.left.now f.takes_room (omega arith) e in
     record {
-      answers = sym p.0;
-      moves = ap (held_from meaning a g.L.Layout.spoilt s.input (s.place + 1) (s.count - (s.place + 1))) b ∙ sym p.1;
+      answers = ap₂ (λ (k : FaultKind) (a : ℕ). Err (record { kind = k; input = s.input; item = (length s.whole.now - length s.left.now) / a })) c.FAULT.ensures n ∙ sym p.0;
+      moves = p.1;
       same = refl;
     }
 
-pub returns-in-None : goal.returns-in-None
-returns-in-None g c =
-    let meaning = g.L.Layout.meaning in
-    let a = g.L.Layout.fixed.align in
+pub returns : goal.returns
+returns g c =
     let s = c.args.self.now in
-    let f : c.format-align.result.align ≡ a = ap (λ (x : Format). x.align) c.format-align.ensures in
-    let e = from_front meaning a c.format-align.result.align c.min.result s.rest.now c.split_at.result.0.now c.read.result f c.min.ensures c.split_at.ensures.front c.read.ensures in
-    let h : s.count - s.place ≡ suc (s.count - (s.place + 1)) = omega arith in
-    let p = fails meaning a g.L.Layout.spoilt s.input s.place s.rest.now (s.count - s.place) (s.count - (s.place + 1)) h (e ∙ c.in-None.is) in
+    let f = g.L.Layout.FORMAT in
+    let n : c.from-align.result ≡ g.L.Layout.FORMAT.align = c.from-align.ensures ∙ ap (λ (x : Format). x.align) c.FORMAT.ensures in
+    let e : g.L.Layout.meaning (take g.L.Layout.FORMAT.align c.args.self.now.left.now) ≡ Some c.in-Some.item =
+    ap g.L.Layout.meaning (ap (λ (k : ℕ). take k s.left.now) (sym n) ∙ sym c.split_at.ensures.front) ∙ sym c.read.ensures ∙ c.in-Some.is in
+    let p = gives g.L.Layout.meaning f.align g.L.Layout.FAULT s.input s.whole.now s.left.now f.takes_room c.in-Some.item (omega arith) s.part e in
     record {
-      answers = told c.fault.result g.L.Layout.spoilt s.input s.place _ c.fault.ensures p.0;
-      moves = sym p.1;
+      answers = sym p.0;
+      moves = ap (left_of g.L.Layout.meaning f.align g.L.Layout.FAULT s.input s.whole.now) (c.split_at.ensures.back ∙ ap (λ (k : ℕ). drop k s.left.now) n) ∙ p.1;
       same = refl;
     }
