@@ -1,1 +1,4 @@
+pub mod Passing
+pub mod Rows
 pub mod Splitting
+pub mod Words

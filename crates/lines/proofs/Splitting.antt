@@ -1,30 +1,36 @@
--- Bytes cut at their first line feed.
-use Rattle.std.proofs.Common.{◌≡◌, ℕ, ◌+◌, ◌<◌, ◌≤◌, List, [], ◌∷◌, ◌++◌, length, get_or, take, drop, sym, ap, ◌∙◌, add-one, arith, drop-cons}
-use Rattle.std.proofs.lemmas.List.{take-append-drop, length-take-le, get_or-take, take_all}
-use Rattle.lines.specs.Lines.{feed, FirstLine}
+-- Lines come off the bytes one after the other.
+use Rattle.std.proofs.Common.{◌≡◌, ℕ, ◌<◌, ◌≤◌, List, [], ◌∷◌, length, false, cond, refl, sym, ap, ◌∙◌, arith, ◌==◌}
+use Rattle.std.specs.List.{All, slice_split}
+use Rattle.std.proofs.lemmas.Bool.Decides.{nat_tests}
+use Rattle.std.proofs.lemmas.List.{get_or_default}
+use Rattle.std.proofs.lemmas.List.Splits.{slice_split_none, slice_split_at, length-slice_split}
+use Rattle.lines.specs.Lines.{feed, FirstLine, without_empty_end, lines_of}
+use Rattle.std.proofs.Math.Nat.{eq-or-lt_of_le}
+use mathlib.Core.Logic.{inl, inr}
 
--- no line feed before place n, and one there, or the end
-pub record Cut (bs : List ℕ) (n : ℕ) : Type 0 where
-  pub within : n ≤ length bs
-  pub before : (k : ℕ) → k < n → get_or bs k 0 ≡ feed → ⊥
-  pub found : n < length bs → get_or bs n 0 ≡ feed
+no_feed : (bytes line left : List ℕ) → FirstLine bytes line left → All (λ b. (b == feed) ≡ false) line
+no_feed bytes line left first k d within =
+    let apart = first.unbroken k within in
+    rw (get_or_default line k d 0 within) (grind (arith, nat_tests, apart))
 
--- the bytes are a first line, a line feed and the rest
-pub first_line : (bs left : List ℕ) (n : ℕ) → Cut bs n → (n < length bs → drop n bs ≡ get_or bs n 0 ∷ left) → (n ≡ length bs → left ≡ []) → FirstLine bs (take n bs) left
-first_line bs left n cut rest none =
-    let within : n ≤ length bs = cut.within in
-    let len : length (take n bs) ≡ n = length-take-le n bs within in
-    record {
-      unbroken = λ k h e. cut.before k (omega arith) (sym (get_or-take n bs k 0 (omega arith)) ∙ e);
-      ended =
-          λ h.
-          let short : n < length bs = omega arith in
-          sym (take-append-drop n bs) ∙ ap (λ xs. take n bs ++ xs) (rest short ∙ ap (λ b. b ∷ left) (cut.found short));
-      unended = λ h. (sym (take_all n bs (omega arith)), none (omega arith));
-    }
+onto_more : (line : List ℕ) (parts : List (List ℕ)) → 0 < length parts → without_empty_end (line ∷ parts) ≡ line ∷ without_empty_end parts
+onto_more line [] some = absurd (omega arith)
+onto_more line (part ∷ parts) some = refl
 
--- a line that ends with a line feed
-pub fed_line : (bs : List ℕ) (n : ℕ) → Cut bs n → n < length bs → FirstLine bs (take n bs) (drop (n + 1) bs)
-fed_line bs n cut short =
-    let rest : drop n bs ≡ get_or bs n 0 ∷ drop (n + 1) bs = rw add-one (drop-cons bs n 0 short) in
-    first_line bs (drop (n + 1) bs) n cut (λ h. rest) (λ h. absurd (omega arith))
+last_line : (line : List ℕ) → 0 < length line → without_empty_end (line ∷ []) ≡ line ∷ []
+last_line line some =
+    let full : (length line == 0) ≡ false = grind (arith, nat_tests) in
+    ap (λ b. cond b [] (line ∷ [])) full
+
+-- the first line and what is left have all the lines
+pub first_of_lines : (bytes line left : List ℕ) → FirstLine bytes line left → length line ≤ length bytes → 0 < length bytes → lines_of bytes ≡ line ∷ lines_of left
+first_of_lines bytes line left first within some =
+    elim (eq-or-lt_of_le within) [
+      | inr h ↦
+          ap lines_of (first.ended h) ∙ ap without_empty_end (slice_split_at (λ b. b == feed) line feed left (no_feed bytes line left first) refl)
+          ∙ onto_more line (slice_split (λ b. b == feed) left) (rw (length-slice_split (λ b. b == feed) left) (omega arith))
+      | inl h ↦
+          let whole = first.unended h in
+          ap lines_of whole.0 ∙ ap without_empty_end (slice_split_none (λ b. b == feed) line (no_feed bytes line left first))
+          ∙ last_line line (omega arith) ∙ ap (λ l. line ∷ lines_of l) (sym whole.1)
+    ]

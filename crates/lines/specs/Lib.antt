@@ -1,1 +1,7 @@
+pub mod Entries
+pub mod Faults
 pub mod Lines
+pub mod Numbers
+pub mod Reading
+pub mod Taking
+pub mod Words

@@ -1,18 +1,29 @@
-// One line, taken word by word.
+// One line, as words.
+ghost use Rattle.std.specs.Prelude.{◌≡◌, [], ◌∷◌, MatchOption, MatchResult};
+ghost use Rattle.std.specs.Str.{IsUtf8};
+ghost use Rattle.lines.specs.Faults.{Unknown};
+ghost use Rattle.lines.specs.Taking.{words_left};
+ghost use Rattle.lines.specs.Words.{words_of};
+ghost use Rattle.lines.specs.declared.fault.Wrong.TheVariants.{NoText};
+
 use crate::fault::{Wrong, quoted};
-use crate::number::Number;
+use crate::numbers::Numbers;
 use std::alloc::Global;
 use std::str::{SplitAsciiWhitespace, from_utf8};
 
 // The words of a line that are not taken yet, its comment left out.
 #[derive(Drop)]
 pub struct Entry<'a> {
-    words: SplitAsciiWhitespace<'a>,
-    heap: Global,
+    pub(crate) words: SplitAsciiWhitespace<'a>,
+    pub(crate) heap: Global,
 }
 
 impl<'a> Entry<'a> {
-    pub fn of(heap: Global, line: &'a [u8]) -> Result<Entry<'a>, Wrong> {
+    pub fn of(heap: Global, line: &'a [u8]) -> Result<Entry<'a>, Wrong>
+        ensures { MatchResult result
+            (λ entry. IsUtf8 line.now × (words_left entry ≡ words_of line.now))
+            (λ wrong. ¬ (IsUtf8 line.now) × (wrong ≡ NoText)) }
+    {
         let Ok(text) = from_utf8(line) else {
             return Err(Wrong::NoText);
         };
@@ -27,36 +38,29 @@ impl<'a> Entry<'a> {
     }
 
     // The next word, if there is one.
-    pub fn word(&mut self) -> Option<&'a str> {
+    pub fn word(&mut self) -> Option<&'a str>
+        ensures { MatchOption result
+            ((words_left self.old ≡ []) × (words_left self.new ≡ []))
+            (λ word. words_left self.old ≡ word.now ∷ words_left self.new) }
+    {
         self.words.next()
     }
 
-    // The allocator for what the line holds.
-    pub fn heap(&self) -> Global {
-        self.heap
+    // The words that are left, as the numbers of a line of this form.
+    pub fn form(self, form: &'static str) -> Numbers<'a>
+        ensures words { result.words ≡ self.entry }
+        ensures form { result.form ≡ form.entry }
+    {
+        Numbers { words: self, form }
     }
 
-    // The next word as a number, if there is a word.
-    pub fn next_number<N: Number>(&mut self) -> Result<Option<N>, Wrong> {
-        let Some(word) = self.words.next() else {
-            return Ok(None);
-        };
-        match N::read(word) {
-            Some(number) => Ok(Some(number)),
-            None => Err(Wrong::NoNumber(quoted(self.heap, word)?, N::RANGE)),
-        }
-    }
-
-    // The next word as a number, which the form has here.
-    pub fn number<N: Number>(&mut self, form: &'static str) -> Result<N, Wrong> {
-        self.next_number()?.ok_or(Wrong::Missing(form))
-    }
-
-    // That the line ends here, as the form does.
-    pub fn end(&mut self, form: &'static str) -> Result<(), Wrong> {
-        match self.words.next() {
-            None => Ok(()),
-            Some(word) => Err(Wrong::Superfluous(quoted(self.heap, word)?, form)),
+    // That the line begins with a word that names nothing of this kind.
+    pub fn unknown(&self, word: &str, kind: &'static str) -> Wrong
+        ensures { Unknown kind.now word.now result }
+    {
+        match quoted(self.heap, word) {
+            Ok(word) => Wrong::UnknownWord(word, kind),
+            Err(_) => Wrong::Memory,
         }
     }
 }

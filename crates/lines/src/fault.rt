@@ -1,4 +1,9 @@
 // What is wrong with a line.
+ghost use Rattle.std.specs.Prelude.{◌≡◌, IfOk, string_bytes};
+ghost use Rattle.lines.specs.Words.{quote_of};
+ghost use Rattle.lines.specs.declared.fault.Wrong.TheVariants.{Memory};
+
+use crate::numbered::Numbered;
 use std::alloc::{AllocError, AllocFailed, Global};
 use std::fmt;
 
@@ -20,12 +25,16 @@ pub enum Wrong {
 }
 
 impl From<AllocError> for Wrong {
+    ghost from_gives = { λ _ wrong. wrong ≡ Memory };
+
     fn from(_error: AllocError) -> Wrong {
         Wrong::Memory
     }
 }
 
 impl<T: Drop> From<AllocFailed<T>> for Wrong {
+    ghost from_gives = { λ _ wrong. wrong ≡ Memory };
+
     fn from(_error: AllocFailed<T>) -> Wrong {
         Wrong::Memory
     }
@@ -44,22 +53,29 @@ impl fmt::Display for Wrong {
     }
 }
 
-// The first line of a file that is wrong, counted from 1.
-#[derive(Drop, Debug)]
-pub struct WrongLine {
-    pub line: u64,
-    pub wrong: Wrong,
+// The first line of a file that is wrong.
+pub type WrongLine = Numbered<Wrong>;
+
+// There was no memory for what stands in the line.
+impl<T: Drop> From<AllocFailed<Numbered<T>>> for WrongLine {
+    ghost from_gives = { λ full wrong. wrong ≡ record { line = full.value.line; held = Memory } };
+
+    fn from(error: AllocFailed<Numbered<T>>) -> WrongLine {
+        Numbered {
+            line: error.value.line,
+            held: Wrong::Memory,
+        }
+    }
 }
 
 // The most characters of a word that are quoted.
 const QUOTED: usize = 40;
 
 // The word as it is quoted: whole, or its beginning and two dots.
-pub(crate) fn quoted(heap: Global, word: &str) -> Result<String, AllocError> {
-    let mut text = String::new(heap);
-    for letter in word.chars().take(QUOTED) {
-        text.push(letter)?;
-    }
+pub(crate) fn quoted(heap: Global, word: &str) -> Result<String, AllocError>
+    ensures { IfOk result (λ text. string_bytes text ≡ quote_of word.now) }
+{
+    let mut text: String = word.chars().take(QUOTED).collect(heap)?;
     if text.len() < word.len() {
         text.push_str("..")?;
     }

@@ -1,11 +1,14 @@
 // Text files of one entry a line: a word, then its numbers, with blanks between. `#` starts a comment.
 //
-// Proved: the lines of a file are the bytes between its line feeds, each of them once and in order; the rest, words and
-// numbers, is safe and ends whatever the bytes are. What words and numbers are read is tested.
+// Proved: which lines, words and numbers the bytes hold, what each entry says, and what is wrong with the first that says
+// nothing.
 #![tactic(auto)]
 
+pub mod entries;
 pub mod entry;
 pub mod fault;
 pub mod lines;
 pub mod number;
-pub mod reader;
+pub mod numbered;
+pub mod numbers;
+pub mod row;

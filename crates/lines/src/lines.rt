@@ -1,63 +1,62 @@
 // The lines of a file.
-ghost use Rattle.std.specs.Prelude.{◌≡◌, ℕ, ◌<◌, ◌≤◌, [], length, MatchOption, ◌≢◌, slice_index};
-ghost use Rattle.lines.specs.Lines.{feed, FirstLine};
+ghost use Rattle.std.specs.Prelude.{◌≡◌, ◌+◌, ◌<◌, ◌≤◌, [], ◌∷◌, length, MatchOption};
+ghost use Rattle.lines.specs.Lines.{FirstLine, lines_of, told};
 ghost use Rattle.std.specs.Iterator.{at_most};
 
-// What is left of the file, from the start of a line. A line ends at a line feed or at the end of the file.
+use crate::numbered::Numbered;
+
+// What is left of the file, from the start of a line, and how many lines are before it. A line ends at a line feed or at
+// the end of the file.
 #[derive(Drop)]
 pub struct Lines<'a> {
     rest: &'a [u8],
+    passed: u64,
 }
 
 impl<'a> Lines<'a> {
     pub fn of(bytes: &'a [u8]) -> Lines<'a>
-        ensures { result.rest.now ≡ bytes.now }
+        ensures rest { result.rest.now ≡ bytes.now }
+        ensures passed { result.passed ≡ 0 }
     {
-        Lines { rest: bytes }
-    }
-}
-
-// How many bytes stand before the first line feed, or in all where there is none.
-fn line_length(bytes: &[u8]) -> usize
-    ensures within { result ≤ length bytes.now }
-    ensures before { (k : ℕ) → k < result → slice_index bytes.now k ≢ feed }
-    ensures found { result < length bytes.now → slice_index bytes.now result ≡ feed }
-{
-    for (place, byte) in bytes.iter().enumerate() {
-        if *byte == b'\n' {
-            return place;
+        Lines {
+            rest: bytes,
+            passed: 0,
         }
     }
-    bytes.len()
 }
 
 // The first line, and what stands behind it and its line feed.
 fn split_line<'a>(bytes: &'a [u8]) -> (&'a [u8], &'a [u8])
     ensures line { FirstLine bytes.now result.0.now result.1.now }
+    ensures within { length result.0.now ≤ length bytes.now }
     ensures less { 0 < length bytes.now → length result.1.now < length bytes.now }
 {
-    let end = line_length(bytes);
-    if end < bytes.len() {
-        (&bytes[0..end], &bytes[end + 1..])
-    } else {
-        (bytes, &[])
+    match bytes.iter().position(|byte| *byte == b'\n') {
+        Some(end) => (&bytes[..end], &bytes[end + 1..]),
+        None => (bytes, &[]),
     }
 }
 
 impl<'a> Iterator for Lines<'a> {
-    type Item = &'a [u8];
+    type Item = Numbered<&'a [u8]>;
 
-    ghost next_gives = { λ s r t. MatchOption r (s.rest.now ≡ []) (λ line. FirstLine s.rest.now line.now t.rest.now) };
+    ghost next_gives = { λ s r t. MatchOption r ((s.rest.now ≡ []) × (t ≡ s)) (λ line. FirstLine s.rest.now line.held.now t.rest.now
+        × (lines_of s.rest.now ≡ line.held.now ∷ lines_of t.rest.now) × (length t.rest.now < length s.rest.now)
+        × (line.line ≡ told (s.passed + 1)) × (t.passed ≡ line.line)) };
 
     ghost remaining = { λ s. at_most (length s.rest.now) };
 
     // The bytes up to the line feed, which is passed over.
-    fn next(&mut self) -> Option<&'a [u8]> {
+    fn next(&mut self) -> Option<Numbered<&'a [u8]>> {
         if self.rest.is_empty() {
             return None;
         }
-        let (line, left) = split_line(self.rest);
+        let (held, left) = split_line(self.rest);
         self.rest = left;
-        Some(line)
+        self.passed = self.passed.saturating_add(1);
+        Some(Numbered {
+            line: self.passed,
+            held,
+        })
     }
 }

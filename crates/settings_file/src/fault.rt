@@ -1,4 +1,7 @@
 // Why a settings file stops: the first line that is wrong or refused.
+ghost use Rattle.std.specs.Prelude.{◌≡◌};
+ghost use Rattle.settings_file.specs.declared.fault.Stop.TheVariants.{Wrong};
+
 use lines::fault::{Wrong, WrongLine};
 use link::refusal::SettingRefusal;
 use std::fmt;
@@ -11,7 +14,7 @@ pub enum Stop {
     Refused(SettingRefusal),
 }
 
-// Lines are counted from 1.
+// Lines are counted from 1. A type of its own, not a `Numbered<Stop>`: only so `?` makes it of a wrong line.
 #[derive(Drop, Debug)]
 pub struct LineFault {
     pub line: u64,
@@ -19,11 +22,12 @@ pub struct LineFault {
 }
 
 impl From<WrongLine> for LineFault {
+    ghost from_gives = { λ wrong fault. fault ≡ record { line = wrong.line; stop = Wrong wrong.held } };
+
     fn from(wrong_line: WrongLine) -> LineFault {
-        let WrongLine { line, wrong } = wrong_line;
         LineFault {
-            line,
-            stop: Stop::Wrong(wrong),
+            line: wrong_line.line,
+            stop: Stop::Wrong(wrong_line.held),
         }
     }
 }

@@ -1,152 +1,103 @@
 // The forms of the lines: which word names which setting, and which numbers stand behind it.
+ghost use Rattle.std.specs.Prelude.{[], ◌∷◌, MatchResult};
+ghost use Rattle.lines.specs.Faults.{NoRows};
+ghost use Rattle.lines.specs.Taking.{numbers_left};
+ghost use Rattle.settings_file.specs.Forms.{Says, Complains, u16_kind, i16_kind, SpellsTable, SpellsPaths};
+
 use crate::setting::Setting;
+use lines::entries::Form;
 use lines::entry::Entry;
 use lines::fault::Wrong;
-use lines::number::Number;
-use lines::reader::Form;
+use lines::number::Switch;
+use lines::numbers::Numbers;
 use link::paths::RawPath;
 
-// The words that name a setting.
-#[derive(Clone, Copy)]
-enum Name {
-    Scale,
-    TxDc,
-    TxImbalance,
-    AmplifierTable,
-    AmplifierBypass,
-    Paths,
-    Frequency,
-    Clock,
-    ClockBypass,
-    Gain,
-    Seeds,
-    ReceiveGain,
-    Lead,
-    RxDc,
-    RxImbalance,
-}
-
-// The setting that the word names, and the form of its line.
-fn named(word: &str) -> Option<(Name, &'static str)> {
-    match word {
-        "scale" => Some((Name::Scale, "scale f")),
-        "tx_dc" => Some((Name::TxDc, "tx_dc re im")),
-        "tx_imbalance" => Some((Name::TxImbalance, "tx_imbalance a b c")),
-        "amplifier_table" => Some((
-            Name::AmplifierTable,
-            "amplifier_table A0 phase0 A1 phase1 ..",
-        )),
-        "amplifier_bypass" => Some((Name::AmplifierBypass, "amplifier_bypass 0|1")),
-        "paths" => Some((Name::Paths, "paths re im delay re im delay ..")),
-        "frequency" => Some((Name::Frequency, "frequency F")),
-        "clock" => Some((Name::Clock, "clock c")),
-        "clock_bypass" => Some((Name::ClockBypass, "clock_bypass 0|1")),
-        "gain" => Some((Name::Gain, "gain shift factor")),
-        "seeds" => Some((Name::Seeds, "seeds re im")),
-        "receive_gain" => Some((Name::ReceiveGain, "receive_gain index shift factor")),
-        "lead" => Some((Name::Lead, "lead d")),
-        "rx_dc" => Some((Name::RxDc, "rx_dc re im")),
-        "rx_imbalance" => Some((Name::RxImbalance, "rx_imbalance a b c")),
-        _ => None,
-    }
-}
-
-fn two<A: Number, B: Number>(entry: &mut Entry, form: &'static str) -> Result<(A, B), Wrong> {
-    let first = entry.number(form)?;
-    let second = entry.number(form)?;
-    Ok((first, second))
-}
-
-fn three<A: Number, B: Number, C: Number>(
-    entry: &mut Entry,
-    form: &'static str,
-) -> Result<(A, B, C), Wrong> {
-    let first = entry.number(form)?;
-    let second = entry.number(form)?;
-    let third = entry.number(form)?;
-    Ok((first, second, third))
-}
-
-// Whole pairs, as many as there are.
-fn table(entry: &mut Entry, form: &'static str) -> Result<Setting, Wrong> {
-    let mut amplitudes = Vec::new(entry.heap());
-    let mut phases = Vec::new(entry.heap());
-    for _ in 0..u64::MAX {
-        let Some(amplitude) = entry.next_number()? else {
-            break;
-        };
-        amplitudes.push(amplitude)?;
-        phases.push(entry.number(form)?)?;
-    }
-    Ok(Setting::AmplifierTable { amplitudes, phases })
-}
-
-// Whole triples, as many as there are.
-fn paths(entry: &mut Entry, form: &'static str) -> Result<Setting, Wrong> {
-    let mut paths = Vec::new(entry.heap());
-    for _ in 0..u64::MAX {
-        let Some(re) = entry.next_number()? else {
-            break;
-        };
-        let (im, delay) = two(entry, form)?;
-        paths.push(RawPath { re, im, delay })?;
-    }
-    Ok(Setting::Paths(paths))
-}
-
-// The setting of the numbers that stand behind its name.
-fn numbers(name: Name, form: &'static str, entry: &mut Entry) -> Result<Setting, Wrong> {
-    Ok(match name {
-        Name::Scale => Setting::Scale(entry.number(form)?),
-        Name::TxDc => {
-            let (re, im) = two(entry, form)?;
-            Setting::TxDc { re, im }
-        }
-        Name::TxImbalance => {
-            let (a, b, c) = three(entry, form)?;
-            Setting::TxImbalance { a, b, c }
-        }
-        Name::AmplifierTable => table(entry, form)?,
-        Name::AmplifierBypass => Setting::AmplifierBypass(entry.number(form)?),
-        Name::Paths => paths(entry, form)?,
-        Name::Frequency => Setting::Frequency(entry.number(form)?),
-        Name::Clock => Setting::Clock(entry.number(form)?),
-        Name::ClockBypass => Setting::ClockBypass(entry.number(form)?),
-        Name::Gain => {
-            let (shift, factor) = two(entry, form)?;
-            Setting::Gain { shift, factor }
-        }
-        Name::Seeds => {
-            let (re, im) = two(entry, form)?;
-            Setting::Seeds { re, im }
-        }
-        Name::ReceiveGain => {
-            let (index, shift, factor) = three(entry, form)?;
-            Setting::ReceiveGain {
-                index,
-                shift,
-                factor,
-            }
-        }
-        Name::Lead => Setting::Lead(entry.number(form)?),
-        Name::RxDc => {
-            let (re, im) = two(entry, form)?;
-            Setting::RxDc { re, im }
-        }
-        Name::RxImbalance => {
-            let (a, b, c) = three(entry, form)?;
-            Setting::RxImbalance { a, b, c }
-        }
+fn table(numbers: Numbers<'_>) -> Result<Setting, Wrong>
+    ensures { MatchResult result (SpellsTable (numbers_left numbers.entry)) (NoRows numbers.entry.form.now (u16_kind ∷ i16_kind ∷ []) (numbers_left numbers.entry)) }
+{
+    let rows: Vec<(u16, i16)> = numbers.rows()?;
+    let heap = *rows.allocator();
+    Ok(Setting::AmplifierTable {
+        amplitudes: rows.iter().map(|row| row.0).collect(heap)?,
+        phases: rows.iter().map(|row| row.1).collect(heap)?,
     })
 }
 
-impl Form for Setting {
-    const KIND: &'static str = "setting";
+fn paths(numbers: Numbers<'_>) -> Result<Setting, Wrong>
+    ensures { MatchResult result (SpellsPaths (numbers_left numbers.entry)) (NoRows numbers.entry.form.now (i16_kind ∷ i16_kind ∷ u16_kind ∷ []) (numbers_left numbers.entry)) }
+{
+    let rows: Vec<(i16, i16, u16)> = numbers.rows()?;
+    let heap = *rows.allocator();
+    let paths = rows
+        .iter()
+        .map(|row| RawPath {
+            re: row.0,
+            im: row.1,
+            delay: row.2,
+        })
+        .collect(heap)?;
+    Ok(Setting::Paths(paths))
+}
 
-    fn read(word: &str, entry: &mut Entry) -> Result<Option<(Setting, &'static str)>, Wrong> {
-        match named(word) {
-            Some((name, form)) => Ok(Some((numbers(name, form, entry)?, form))),
-            None => Ok(None),
+impl Form for Setting {
+    ghost Says = { Says };
+
+    ghost Complains = { Complains };
+
+    // Over forty lines: one arm a word, in the order of the forms.
+    fn read(word: &str, line: Entry<'_>) -> Result<Setting, Wrong> {
+        match word {
+            "scale" => line.form("scale f").row().map(|(f,)| Setting::Scale(f)),
+            "tx_dc" => {
+                let (re, im) = line.form("tx_dc re im").row()?;
+                Ok(Setting::TxDc { re, im })
+            }
+            "tx_imbalance" => {
+                let (a, b, c) = line.form("tx_imbalance a b c").row()?;
+                Ok(Setting::TxImbalance { a, b, c })
+            }
+            "amplifier_table" => table(line.form("amplifier_table A0 phase0 A1 phase1 ..")),
+            "amplifier_bypass" => line
+                .form("amplifier_bypass 0|1")
+                .row()
+                .map(|(Switch(on),)| Setting::AmplifierBypass(on)),
+            "paths" => paths(line.form("paths re im delay re im delay ..")),
+            "frequency" => line
+                .form("frequency F")
+                .row()
+                .map(|(f,)| Setting::Frequency(f)),
+            "clock" => line.form("clock c").row().map(|(c,)| Setting::Clock(c)),
+            "clock_bypass" => line
+                .form("clock_bypass 0|1")
+                .row()
+                .map(|(Switch(on),)| Setting::ClockBypass(on)),
+            "gain" => line
+                .form("gain shift factor")
+                .row()
+                .map(|(shift, factor)| Setting::Gain { shift, factor }),
+            "seeds" => line
+                .form("seeds re im")
+                .row()
+                .map(|(re, im)| Setting::Seeds { re, im }),
+            "receive_gain" => line.form("receive_gain index shift factor").row().map(|(
+                index,
+                shift,
+                factor,
+            )| Setting::ReceiveGain {
+                index,
+                shift,
+                factor,
+            }),
+            "lead" => line.form("lead d").row().map(|(d,)| Setting::Lead(d)),
+            "rx_dc" => {
+                let (re, im) = line.form("rx_dc re im").row()?;
+                Ok(Setting::RxDc { re, im })
+            }
+            "rx_imbalance" => {
+                let (a, b, c) = line.form("rx_imbalance a b c").row()?;
+                Ok(Setting::RxImbalance { a, b, c })
+            }
+            _ => Err(line.unknown(word, "setting")),
         }
     }
 }

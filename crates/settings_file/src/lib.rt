@@ -1,7 +1,7 @@
 // Files of settings: one setting a line, carried out in order on fresh settings.
 //
-// Proved: which call each setting makes, what it leaves in the settings, and which refusal comes back. How settings are
-// read from the lines, and carried out one after the other, is proved to be safe and to end, and tested.
+// Proved: which setting a line says, which call each setting makes, and what all settings of a file make of fresh ones, in
+// order, up to the first line that is wrong or refused.
 #![tactic(auto)]
 
 pub mod fault;

@@ -1,29 +1,33 @@
 // Reading a settings file.
+ghost use Rattle.std.specs.Prelude.{MatchResult};
+ghost use Rattle.lines.specs.Entries.{entries_of};
+ghost use Rattle.link.specs.Fresh.{fresh};
+ghost use Rattle.settings_file.specs.Files.{Makes, Puts, Stops};
+
 use crate::fault::{LineFault, Stop};
 use crate::setting::Setting;
-use lines::reader::{Numbered, read_lines};
+use lines::entries::Entries;
+use lines::numbered::Numbered;
 use link::settings::Settings;
 use std::alloc::Global;
 
-// What the settings make of fresh ones, carried out in order; the first that is refused stops them.
-pub fn carry_out_all(settings: &[Numbered<Setting>]) -> Result<Settings, LineFault> {
-    let mut made = Settings::fresh();
-    for setting in settings {
-        if let Err(refusal) = setting.read.carry_out(&mut made) {
-            return Err(LineFault {
-                line: setting.line,
-                stop: Stop::Refused(refusal),
-            });
-        }
-    }
-    Ok(made)
+// Carries the setting out, or tells its line.
+fn put(setting: Numbered<Setting>, made: &mut Settings) -> Result<(), LineFault>
+    ensures { Puts setting made.old result made.new }
+{
+    setting.held.carry_out(made).map_err(|refusal| LineFault {
+        line: setting.line,
+        stop: Stop::Refused(refusal),
+    })
 }
 
-// The settings of the file. The first line that is wrong or refused stops it.
-pub fn read(heap: Global, bytes: &[u8]) -> Result<Settings, LineFault> {
-    let mut settings = Vec::new(heap);
-    let rest = read_lines(heap, bytes, &mut settings);
-    let made = carry_out_all(settings.as_slice())?;
-    rest?;
+// What the settings of the file make of fresh ones, in order. The first line that is wrong or refused stops it.
+pub fn read(heap: Global, bytes: &[u8]) -> Result<Settings, LineFault>
+    ensures { MatchResult result (Makes (entries_of bytes.now) fresh) (Stops (entries_of bytes.now)) }
+{
+    let mut made = Settings::fresh();
+    for entry in Entries::<Setting>::of(heap, bytes) {
+        put(entry?, &mut made)?;
+    }
     Ok(made)
 }

@@ -18,6 +18,7 @@ pub enum Setting {
         b: i16,
         c: i16,
     },
+    // Two lists, not a list of pairs: the setting call takes them so.
     AmplifierTable {
         amplitudes: Vec<u16>,
         phases: Vec<i16>,

@@ -19,6 +19,7 @@ fn blanks_line_ends_and_comments(rt: HostRuntime) -> Result<(), Fail> {
         b"scale 256",
         b"\tscale\t+256 # one\r\nlead 00000000000000000000007\r\n",
         b"clock -0#tight",
+        b"paths 8192 0 0 1 -2 63",
     ] {
         let words = told(rt.alloc(), bytes)?;
         assert!(rt; words.as_str() == "accepted");

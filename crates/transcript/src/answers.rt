@@ -1,75 +1,80 @@
-// The line that tells a call and its answer.
+// What a player answered, in text.
 use crate::step::Step;
+use lines::numbered::Numbered;
 use player::calls::Answer;
-use player::fault::PlayerFault;
 use samples::converter::ConverterSample;
-use std::alloc::{AllocError, Global};
+use std::fmt;
 
-fn item_line(
-    heap: Global,
-    answer: &Result<Option<ConverterSample>, PlayerFault>,
-) -> Result<String, AllocError> {
-    match answer {
-        Ok(item) => match item {
-            Some(sample) => {
-                let re = sample.re;
-                let im = sample.im;
-                format!(in heap; "next: item {re} {im}")
-            }
-            None => format!(in heap; "next: no item"),
-        },
-        Err(fault) => format!(in heap; "next: {fault}"),
-    }
+// A step and its answer, told in one line: `next: item -95 53`, `next: no item`, `fill 3: 3; 1 2; 3 4; 5 6`,
+// `skip 9: fault 12 input 0 item 250 place 251` or `rewind: done`.
+#[derive(Clone, Copy)]
+pub struct AnswerLine<'a> {
+    pub step: Step,
+    pub answer: &'a Answer<ConverterSample>,
 }
 
-// `fill 3: 3; 1 2; 3 4; 5 6`: how many samples were placed, then each of them.
-fn filled_line(
-    heap: Global,
-    answer: &Result<usize, PlayerFault>,
-    buffer: &[ConverterSample],
-) -> Result<String, AllocError> {
-    let wanted = buffer.len();
-    match answer {
-        Ok(count) => {
-            let mut line = format!(in heap; "fill {wanted}: {count}")?;
-            for sample in buffer.iter().take(*count) {
-                let re = sample.re;
-                let im = sample.im;
-                let shown = format!(in heap; "; {re} {im}")?;
-                line.push_str(shown.as_str())?;
-            }
-            Ok(line)
+fn write_item<W: fmt::Write>(
+    f: &mut fmt::Formatter<W>,
+    item: &Option<ConverterSample>,
+) -> fmt::Result {
+    match item {
+        Some(sample) => {
+            let re = sample.re;
+            let im = sample.im;
+            write!(f, "item {re} {im}")
         }
-        Err(fault) => format!(in heap; "fill {wanted}: {fault}"),
+        None => write!(f, "no item"),
     }
 }
 
-fn skipped_line(
-    heap: Global,
-    step: Step,
-    answer: &Result<u32, PlayerFault>,
-) -> Result<String, AllocError> {
-    let wanted = match step {
-        Step::Skip(wanted) => wanted,
-        _ => 0,
-    };
-    match answer {
-        Ok(count) => format!(in heap; "skip {wanted}: {count}"),
-        Err(fault) => format!(in heap; "skip {wanted}: {fault}"),
+// How many samples were placed, then each of them.
+fn write_filled<W: fmt::Write>(
+    f: &mut fmt::Formatter<W>,
+    count: usize,
+    buffer: &[ConverterSample],
+) -> fmt::Result {
+    write!(f, "{count}")?;
+    for sample in buffer.iter().take(count) {
+        let re = sample.re;
+        let im = sample.im;
+        write!(f, "; {re} {im}")?;
+    }
+    Ok(())
+}
+
+impl<'a> fmt::Display for AnswerLine<'a> {
+    fn fmt<W: fmt::Write>(&self, f: &mut fmt::Formatter<W>) -> fmt::Result {
+        let step = self.step;
+        write!(f, "{step}: ")?;
+        match self.answer {
+            Answer::Item(Ok(item)) => write_item(f, item),
+            Answer::Filled(Ok(count), buffer) => write_filled(f, *count, buffer.as_slice()),
+            Answer::Skipped(Ok(count)) => write!(f, "{count}"),
+            Answer::Rewound => write!(f, "done"),
+            Answer::Item(Err(fault))
+            | Answer::Filled(Err(fault), _)
+            | Answer::Skipped(Err(fault)) => write!(f, "{fault}"),
+        }
     }
 }
 
-// As `next: item -95 53`, `next: no item`, `fill 3: 3; 1 2; 3 4; 5 6`, `skip 9: fault 12 input 0 item 250 place 251` or
-// `rewind: done`.
-pub fn line_of(
-    heap: Global,
-    step: Step,
-    answer: &Answer<ConverterSample>,
-) -> Result<String, AllocError> {
-    match answer {
-        Answer::Item(item) => item_line(heap, item),
-        Answer::Filled(count, buffer) => filled_line(heap, count, buffer.as_slice()),
-        Answer::Skipped(count) => skipped_line(heap, step, count),
-        Answer::Rewound => format!(in heap; "rewind: done"),
+// All steps with their answers, each in a line of its own.
+#[derive(Clone, Copy)]
+pub struct AnswerLines<'a> {
+    // Two lists: a run takes all calls, then gives all answers.
+    pub steps: &'a [Numbered<Step>],
+    pub answers: &'a [Answer<ConverterSample>],
+}
+
+impl<'a> fmt::Display for AnswerLines<'a> {
+    fn fmt<W: fmt::Write>(&self, f: &mut fmt::Formatter<W>) -> fmt::Result {
+        for (step, answer) in self.steps.iter().zip(self.answers) {
+            let line = AnswerLine {
+                step: step.held,
+                answer,
+            };
+            writeln!(f, "{line}")?;
+        }
+        Ok(())
     }
 }

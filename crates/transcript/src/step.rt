@@ -1,15 +1,17 @@
 // Files of calls: `next`, `fill N`, `skip N` or `rewind`, one a line.
-ghost use Rattle.std.specs.Prelude.{◌≡◌, IfOk};
+ghost use Rattle.std.specs.Prelude.{◌≡◌, map, IfOk};
 ghost use Rattle.player.specs.Calls.{asked};
-ghost use Rattle.transcript.specs.Steps.{call_of};
+ghost use Rattle.transcript.specs.Steps.{call_of, Says, Complains};
 
+use lines::entries::Form;
 use lines::entry::Entry;
 use lines::fault::Wrong;
-use lines::reader::Form;
+use lines::numbered::Numbered;
 use player::calls::Call;
 use samples::converter::ConverterSample;
 use samples::sample::Sample;
 use std::alloc::{AllocError, Global};
+use std::fmt;
 
 // A call of a player, with the number of items that it wants.
 #[derive(Clone, Copy)]
@@ -38,16 +40,44 @@ impl Step {
     }
 }
 
-impl Form for Step {
-    const KIND: &'static str = "call";
+// The calls that the steps stand for, in order.
+pub fn calls_of(
+    heap: Global,
+    steps: &[Numbered<Step>],
+) -> Result<Vec<Call<ConverterSample>>, AllocError>
+    ensures { IfOk result (λ calls. map asked calls.items ≡ map (λ step. call_of step.held) steps.now) }
+{
+    let mut calls = Vec::new(heap);
+    for step in steps {
+        calls.push(step.held.call(heap)?)?;
+    }
+    Ok(calls)
+}
 
-    fn read(word: &str, entry: &mut Entry) -> Result<Option<(Step, &'static str)>, Wrong> {
+impl Form for Step {
+    ghost Says = { Says };
+
+    ghost Complains = { Complains };
+
+    fn read(word: &str, line: Entry<'_>) -> Result<Step, Wrong> {
         match word {
-            "next" => Ok(Some((Step::Next, "next"))),
-            "fill" => Ok(Some((Step::Fill(entry.number("fill N")?), "fill N"))),
-            "skip" => Ok(Some((Step::Skip(entry.number("skip N")?), "skip N"))),
-            "rewind" => Ok(Some((Step::Rewind, "rewind"))),
-            _ => Ok(None),
+            "next" => line.form("next").end().map(|()| Step::Next),
+            "fill" => line.form("fill N").row().map(|(n,)| Step::Fill(n)),
+            "skip" => line.form("skip N").row().map(|(n,)| Step::Skip(n)),
+            "rewind" => line.form("rewind").end().map(|()| Step::Rewind),
+            _ => Err(line.unknown(word, "call")),
+        }
+    }
+}
+
+// As the line that it was read from.
+impl fmt::Display for Step {
+    fn fmt<W: fmt::Write>(&self, f: &mut fmt::Formatter<W>) -> fmt::Result {
+        match self {
+            Step::Next => write!(f, "next"),
+            Step::Fill(n) => write!(f, "fill {n}"),
+            Step::Skip(n) => write!(f, "skip {n}"),
+            Step::Rewind => write!(f, "rewind"),
         }
     }
 }

@@ -1,0 +1,15 @@
+use Rattle.std.proofs.Common.{◌≡◌, map, refl, rules, vec_items}
+use Rattle.std.proofs.lemmas.Iterator.{YieldsList-from_slice, YieldsList-from_map, items_from_collect}
+use Rattle.std.proofs.lemmas.Result.{IfOk-at_ok}
+use Rattle.settings_file.proofs.forms.table.Goals as goal
+
+pub returns : goal.returns
+returns c =
+    let rows = c.in_ok-rows.rows.items in
+    let amplitudes : vec_items c.in_ok-collect.field-0 ≡ map (λ row. row.0) rows = search rules in
+    let source : c.map-2.result.iter.rest.now ≡ rows = search rules in
+    let phases : vec_items c.in_ok-collect-2.field-0 ≡ map (λ row. row.1) rows =
+    IfOk-at_ok (λ v. vec_items v ≡ map (λ row. row.1) rows) c.in_ok-collect-2.was
+    (items_from_collect c.collect-2.result c.collect-2.ensures.ran (YieldsList-from_map _ (λ row. row.1) (YieldsList-from_slice rows source) c.map-2.ensures.closure (λ x r q k. search rules)))
+    in
+    (refl, (rows, c.in_ok-rows.ensures, amplitudes, phases))
