@@ -1,11 +1,9 @@
 -- A player at the start of a whole, after a call that wanted n items: how many came, and what is left then.
-use Rattle.std.proofs.Common.{◌≡◌, ℕ, ◌-◌, ◌<◌, min, Bool, true, false, cond, ltb, leb, List, length, Some, None, Ok, Result, sym, refl, ap, ◌∙◌, arith, length-drop}
+use Rattle.std.proofs.Common.{◌≡◌, ℕ, ◌-◌, ◌<◌, min, Bool, true, false, cond, ltb, leb, List, length, Some, None, Ok, Result, sym, refl, ap, ◌∙◌, arith, length-drop, Err}
 use lib.ListN.{length-map}
 use Rattle.std.proofs.lemmas.Bool.Decides.{nat_tests}
 use Rattle.std.specs.Result.{result_unwrap_or}
-use Rattle.source.specs.Streams.{Stream}
-use Rattle.source.specs.declared.fault.Ending.{Ending}
-use Rattle.source.specs.declared.fault.Ending.TheVariants.{Finished, Faulted}
+use Rattle.source.specs.Streams.{Ending, Stream}
 use Rattle.stages.specs.Wholes.{each}
 use Rattle.player.specs.Calls.{filled}
 use Rattle.player.specs.declared.fault.PlayerFault.{PlayerFault}
@@ -14,8 +12,8 @@ use Rattle.player.specs.Standing.{Standing, Stands, coming, count_answer, onward
 use Rattle.recorder.specs.Sessions.{taken, met}
 
 counted : (b : Bool) (e : Ending) (p t : ℕ) → (b ≡ true → t ≡ 0) → result_unwrap_or (cond b (ending_answer {A = ℕ} e p 0) (Ok t)) 0 ≡ t
-counted true Finished p t h = sym (h refl)
-counted true (Faulted f) p t h = sym (h refl)
+counted true (Ok _) p t h = sym (h refl)
+counted true (Err f) p t h = sym (h refl)
 counted false e p t h = refl
 
 -- an ending counts as none, so the count is that of the items that came

@@ -1,11 +1,8 @@
 -- What is heard of a source: how many of its items come to a call that wants n, and its ending, if that is met.
 use Rattle.std.specs.Prelude.{ℕ, ◌-◌, ◌^◌, cond, List, Ok, Err, Result, ◌==◌}
-use Rattle.samples.specs.declared.gain_index.GainIndex.{GainIndex}
 use Rattle.source.specs.Streams.{Stream}
-use Rattle.source.specs.declared.fault.FaultKind.TheVariants.{GainOver}
 use Rattle.wave.specs.declared.refusal.OpeningRefusal.{OpeningRefusal}
-use Rattle.recordings.specs.Items.{gain_item}
-use Rattle.recordings.specs.Opening.{Opened, opening, gain_format, signal_opening}
+use Rattle.recordings.specs.Opening.{Opened, signal_opening, gain_opening}
 use Rattle.recorder.specs.Sessions.{taken, met}
 use Rattle.capi.specs.declared.refusal.Input.{Input}
 use Rattle.capi.specs.declared.refusal.Input.TheVariants.{Signal, Gain}
@@ -27,10 +24,6 @@ most = 2 ^ 32 - 1
 abbrev pub examined : {T : Type 0} → Input → Result (Opened T) OpeningRefusal → Result Report Refusal
 examined input (Ok o) = Ok (heard_report o.rate (heard_of most o.whole))
 examined input (Err e) = Err (Opening input e)
-
--- the bytes, opened as a gain recording
-abbrev pub gain_opening : ℕ → List ℕ → Result (Opened GainIndex) OpeningRefusal
-gain_opening input b = opening gain_format gain_item GainOver input b
 
 -- the bytes, opened as the kind of recording that has this number
 abbrev pub open_answer : ℕ → List ℕ → Result Report Refusal

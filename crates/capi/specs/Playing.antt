@@ -9,13 +9,13 @@ use Rattle.link.specs.declared.settings.Settings.{Settings}
 use Rattle.chain.specs.Chains.{played}
 use Rattle.player.specs.Plain.{plain_buffer}
 use Rattle.wave.specs.declared.refusal.OpeningRefusal.{OpeningRefusal}
-use Rattle.recordings.specs.Opening.{Opened, signal_opening}
+use Rattle.recordings.specs.Opening.{Opened, signal_opening, gain_opening}
 use Rattle.capi.specs.declared.refusal.Input.TheVariants.{Signal, Gain}
 use Rattle.capi.specs.declared.refusal.Refusal.{Refusal}
 use Rattle.capi.specs.declared.refusal.Refusal.TheVariants.{Opening, Setting, UnknownKind, WrongLine, Memory, Room}
 use Rattle.capi.specs.declared.iq.Iq.{Iq}
 use Rattle.capi.specs.declared.report.Report.{Report}
-use Rattle.capi.specs.Hearing.{heard_of, gain_opening}
+use Rattle.capi.specs.Hearing.{heard_of}
 use Rattle.capi.specs.Reports.{heard_report, input_number, status, told}
 
 -- the two parts of a sample

@@ -2,14 +2,13 @@
 use Rattle.std.specs.Prelude.{◌≡◌, ℕ, cond, List, length, None, Ok, Err, string_bytes, Result, nat_le}
 use Rattle.wave.specs.Bytes.{overwrite}
 use Rattle.wave.specs.declared.refusal.OpeningRefusal.{OpeningRefusal}
-use Rattle.recordings.specs.Opening.{Opened, signal_opening}
+use Rattle.recordings.specs.Opening.{Opened, signal_opening, gain_opening}
 use Rattle.capi.specs.declared.refusal.Input.{Input}
 use Rattle.capi.specs.declared.refusal.Input.TheVariants.{Signal, Gain, Settings, Calls}
 use Rattle.capi.specs.declared.refusal.Refusal.{Refusal}
 use Rattle.capi.specs.declared.refusal.Refusal.TheVariants.{Opening, Setting, UnknownKind, WrongLine, Memory, Room}
 use Rattle.capi.specs.declared.report.Report.{Report}
 use Rattle.capi.specs.declared.written.Transcript.{Transcript}
-use Rattle.capi.specs.Hearing.{gain_opening}
 use Rattle.capi.specs.Reports.{items_report, input_number, status, told}
 
 -- the rate of what was opened

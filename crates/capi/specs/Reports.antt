@@ -1,16 +1,18 @@
 -- Statuses and reports: which number each refusal has, and what the report tells.
 use Rattle.std.specs.Prelude.{ℕ, Some, None, Ok, Err, Option, Result}
 use Rattle.source.specs.Faults.{fault_number}
-use Rattle.source.specs.declared.fault.Ending.{Ending}
-use Rattle.source.specs.declared.fault.Ending.TheVariants.{Finished, Faulted}
 use Rattle.link.specs.Refusals.{setting_number}
 use Rattle.wave.specs.Refusals.{opening_number, opening_place}
+use Rattle.wave.specs.declared.refusal.OpeningRefusal.{OpeningRefusal}
+use Rattle.recordings.specs.declared.pair.Input as pair
+use Rattle.recordings.specs.declared.pair.Input.TheVariants as links
 use Rattle.capi.specs.declared.refusal.Input.{Input}
 use Rattle.capi.specs.declared.refusal.Input.TheVariants.{Signal, Gain, Settings, Calls}
 use Rattle.capi.specs.declared.refusal.Refusal.{Refusal}
 use Rattle.capi.specs.declared.refusal.Refusal.TheVariants.{Opening, Setting, UnknownKind, WrongLine, Memory, Room}
 use Rattle.capi.specs.declared.report.Heard.{Heard}
 use Rattle.capi.specs.declared.report.Report.{Report}
+use Rattle.source.specs.Streams.{Ending}
 
 -- the number by which a report names an input
 abbrev pub input_number : Input → ℕ
@@ -18,6 +20,11 @@ input_number Signal = 0
 input_number Gain = 1
 input_number Settings = 2
 input_number Calls = 3
+
+-- the refusal of a recording that does not open
+abbrev pub opening_of : pair.Input × OpeningRefusal → Refusal
+opening_of (links.Signal, e) = Opening Signal e
+opening_of (links.Gain, e) = Opening Gain e
 
 -- the status that tells a refusal
 abbrev pub refusal_number : Refusal → ℕ
@@ -43,8 +50,8 @@ refusal_report (Room needed) = refused_report Signal needed
 -- the report of n items, which end so, if the end was met
 abbrev pub items_report : ℕ → ℕ → Option Ending → Report
 items_report rate n None = record { rate = rate; ended = 0; fault = 0; input = 0; items = n; item = 0; place = 0 }
-items_report rate n (Some Finished) = record { rate = rate; ended = 1; fault = 0; input = 0; items = n; item = 0; place = 0 }
-items_report rate n (Some (Faulted f)) = record { rate = rate; ended = 1; fault = fault_number f.kind; input = f.input; items = n; item = f.item; place = 0 }
+items_report rate n (Some (Ok _)) = record { rate = rate; ended = 1; fault = 0; input = 0; items = n; item = 0; place = 0 }
+items_report rate n (Some (Err f)) = record { rate = rate; ended = 1; fault = fault_number f.kind; input = f.input; items = n; item = f.item; place = 0 }
 
 abbrev pub heard_report : ℕ → Heard → Report
 heard_report rate heard = items_report rate heard.items heard.ending

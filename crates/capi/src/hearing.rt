@@ -13,14 +13,11 @@ use stages::each::{Each, Mapping};
 
 // The ending, if fewer items came than were wanted.
 fn ending_met<S: Source>(player: &mut Player<S>, came: u64, wanted: u64) -> Option<Ending>
-    requires { came < wanted → length (S.Source.left player.old.source).items ≡ 0 }
-    ensures { result ≡ (if nat_lt came wanted then Some (S.Source.left player.old.source).ending else None) }
+    requires { came < wanted → length player.old.left.items ≡ 0 }
+    ensures { result ≡ (if nat_lt came wanted then Some player.old.left.ending else None) }
 {
     if came < wanted {
-        match player.next() {
-            Ok(_) => Some(Ending::Finished),
-            Err(fault) => Some(Ending::Faulted(fault.fault)),
-        }
+        Some(player.next().map(|_| ()).map_err(|fault| fault.fault))
     } else {
         None
     }

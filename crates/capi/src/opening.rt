@@ -12,19 +12,16 @@ use recordings::recording::Recording;
 
 // Opens the bytes as a recording of the kind L, and counts what it holds.
 fn examine<'a, L: Layout>(bytes: &'a [u8], input: Input) -> Result<Report, Refusal>
-    ensures { result ≡ examined input (opening L.Layout.fixed L.Layout.meaning L.Layout.spoilt (input_number input) bytes.now) }
+    ensures { result ≡ examined input (opening L.FORMAT L.meaning L.FAULT (input_number input) bytes.now) }
 {
-    let opened: Result<Recording<'a, L>, _> = Recording::open(bytes, input.number());
-    match opened {
-        Ok(recording) => {
-            let rate = recording.rate();
-            Ok(Report::heard(rate, count(recording)))
-        }
-        Err(refusal) => Err(Refusal::Opening(input, refusal)),
-    }
+    let recording: Recording<'a, L> = Recording::open(bytes, input.number()).map_err(
+        |refusal| Refusal::Opening(input, refusal),
+    )?;
+    let rate = recording.rate();
+    Ok(Report::heard(rate, count(recording)))
 }
 
-// The kinds have the numbers of their inputs.
+// The kinds have the numbers of their inputs. Numbers throughout: C has no enums of ours.
 fn open(kind: u32, bytes: &[u8]) -> Result<Report, Refusal>
     ensures { result ≡ open_answer kind bytes.now }
 {

@@ -1,20 +1,18 @@
 // Playing the standard chain.
 ghost use Rattle.std.specs.Prelude.{◌≡◌, length};
 ghost use Rattle.chain.specs.Chains.{played};
-ghost use Rattle.recordings.specs.Opening.{signal_opening};
-ghost use Rattle.capi.specs.Hearing.{heard_of, gain_opening};
-ghost use Rattle.capi.specs.Playing.{filled_from, play_opened, after_opened, play_answer, after_play, Settles, PlaysChain};
-ghost use Rattle.capi.specs.Reports.{status, told};
+ghost use Rattle.recordings.specs.Opening.{signal_opening, gain_opening};
+ghost use Rattle.capi.specs.Hearing.{heard_of};
+ghost use Rattle.capi.specs.Playing.{filled_from, play_opened, after_opened, play_answer, after_play, PlaysChain};
 
 use crate::hearing::listen;
 use crate::iq::Iq;
-use crate::refusal::{Input, Refusal, conclude};
+use crate::refusal::{Refusal, conclude};
 use crate::report::{Heard, Report};
 use crate::settings::settings_of;
 use chain::standard::standard_chain;
 use link::settings::Settings;
-use recordings::layout::{Gains, Signal};
-use recordings::recording::Recording;
+use recordings::pair::LinkRecordings;
 use samples::converter::ConverterSample;
 use samples::gain_index::GainIndex;
 use source::source::Source;
@@ -34,7 +32,7 @@ fn play_chain<S: Source<Item = ConverterSample> + Drop, G: Source<Item = GainInd
     listen(chain, out)
 }
 
-// Opens both recordings and plays the chain over them.
+// Opens both recordings and plays the chain over them. Bytes one by one, as C hands them in.
 fn play_recordings(
     settings: &Settings,
     signal: &[u8],
@@ -44,17 +42,10 @@ fn play_recordings(
     ensures answer { result ≡ play_opened settings.now (signal_opening 0 signal.now) (gain_opening 1 gain.now) (length out.old) }
     ensures buffer { out.new ≡ after_opened settings.now (signal_opening 0 signal.now) (gain_opening 1 gain.now) out.old }
 {
-    match Recording::<Signal>::open(signal, Input::Signal.number()) {
-        Ok(samples) => match Recording::<Gains>::open(gain, Input::Gain.number()) {
-            Ok(indices) => {
-                let rate = samples.rate();
-                let heard = play_chain(settings, samples, indices, out);
-                Ok(Report::heard(rate, heard))
-            }
-            Err(refusal) => Err(Refusal::Opening(Input::Gain, refusal)),
-        },
-        Err(refusal) => Err(Refusal::Opening(Input::Signal, refusal)),
-    }
+    let LinkRecordings { signal, gain } = LinkRecordings::open(signal, gain)?;
+    let rate = signal.rate();
+    let heard = play_chain(settings, signal, gain, out);
+    Ok(Report::heard(rate, heard))
 }
 
 // Plays with the settings that were read; settings that are refused play nothing.
@@ -67,10 +58,7 @@ fn play(
     ensures answer { result ≡ play_answer settings signal.now gain.now (length out.old) }
     ensures buffer { out.new ≡ after_play settings signal.now gain.now out.old }
 {
-    match settings {
-        Ok(settings) => play_recordings(&settings, signal, gain, out),
-        Err(refusal) => Err(refusal),
-    }
+    play_recordings(&settings?, signal, gain, out)
 }
 
 // Plays the standard chain over a signal and a gain recording, with the settings of the text, from its start until the

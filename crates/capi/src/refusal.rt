@@ -1,14 +1,15 @@
 // Why a call is refused.
 ghost use Rattle.std.specs.Prelude.{◌≡◌};
 ghost use Rattle.capi.specs.declared.refusal.Refusal.TheVariants.{Memory};
-ghost use Rattle.capi.specs.Reports.{input_number, refusal_number, refusal_report, status, told};
+ghost use Rattle.capi.specs.Reports.{input_number, opening_of, refusal_number, refusal_report, status, told};
 
 use crate::report::Report;
 use link::refusal::SettingRefusal;
+use recordings::pair;
 use std::alloc::AllocError;
 use wave::refusal::OpeningRefusal;
 
-// What is handed in.
+// What is handed in. Not the pair's: texts are handed in too, with numbers of their own.
 #[derive(Clone, Copy)]
 pub enum Input {
     Signal,
@@ -74,6 +75,18 @@ impl Refusal {
             Refusal::Room(needed) => Report::refused(Input::Signal, needed),
             Refusal::UnknownKind => Report::refused(Input::Signal, 0),
             Refusal::Memory => Report::refused(Input::Signal, 0),
+        }
+    }
+}
+
+impl From<(pair::Input, OpeningRefusal)> for Refusal {
+    ghost from_gives = { λ refused r. r ≡ opening_of refused };
+
+    fn from(refused: (pair::Input, OpeningRefusal)) -> Refusal {
+        let (input, refusal) = refused;
+        match input {
+            pair::Input::Signal => Refusal::Opening(Input::Signal, refusal),
+            pair::Input::Gain => Refusal::Opening(Input::Gain, refusal),
         }
     }
 }

@@ -7,31 +7,18 @@ use crate::refusal::{Input, Refusal, conclude};
 use crate::report::{Heard, Report};
 use crate::settings::{refusal_of, settings_of};
 use crate::written::Transcript;
-use lines::reader::{Numbered, read_lines};
+use lines::entries::read_all;
+use lines::numbered::Numbered;
 use link::settings::Settings;
-use player::calls::Call;
-use recordings::layout::{Gains, Signal};
-use recordings::recording::Recording;
+use recordings::pair::LinkRecordings;
 use samples::converter::ConverterSample;
 use samples::gain_index::GainIndex;
 use settings_file::fault::LineFault;
 use source::source::Source;
 use standard::standard_run;
 use std::alloc::{AllocError, Global};
-use transcript::answers::line_of;
-use transcript::step::Step;
-
-// The calls that the steps stand for.
-fn calls_of(
-    heap: Global,
-    steps: &[Numbered<Step>],
-) -> Result<Vec<Call<ConverterSample>>, AllocError> {
-    let mut calls = Vec::new(heap);
-    for step in steps {
-        calls.push(step.read.call(heap)?)?;
-    }
-    Ok(calls)
-}
+use transcript::answers::AnswerLines;
+use transcript::step::{Step, calls_of};
 
 // Makes the calls on one player over the chain: a line for each answer.
 fn replay_chain<S: Source<Item = ConverterSample> + Drop, G: Source<Item = GainIndex> + Drop>(
@@ -43,16 +30,14 @@ fn replay_chain<S: Source<Item = ConverterSample> + Drop, G: Source<Item = GainI
 ) -> Result<String, AllocError> {
     let calls = calls_of(heap, steps)?;
     let answers = standard_run(heap, settings, signal, indices, calls)?;
-    let mut text = String::new(heap);
-    for (step, answer) in steps.iter().zip(answers.as_slice().iter()) {
-        let line = line_of(heap, step.read, answer)?;
-        text.push_str(line.as_str())?;
-        text.push('\n')?;
-    }
-    Ok(text)
+    let lines = AnswerLines {
+        steps,
+        answers: answers.as_slice(),
+    };
+    format!(in heap; "{lines}")
 }
 
-// Opens both recordings and makes the calls on the chain over them.
+// Opens both recordings and makes the calls on the chain over them. Bytes one by one, as C hands them in.
 fn replay_recordings(
     heap: Global,
     settings: &Settings,
@@ -62,27 +47,16 @@ fn replay_recordings(
 ) -> Result<Transcript, Refusal>
     ensures { Tells signal.now gain.now result }
 {
-    match Recording::<Signal>::open(signal, Input::Signal.number()) {
-        Ok(samples) => match Recording::<Gains>::open(gain, Input::Gain.number()) {
-            Ok(indices) => {
-                let rate = samples.rate();
-                let text = replay_chain(heap, settings, samples, indices, steps)?;
-                Ok(Transcript { rate, text })
-            }
-            Err(refusal) => Err(Refusal::Opening(Input::Gain, refusal)),
-        },
-        Err(refusal) => Err(Refusal::Opening(Input::Signal, refusal)),
-    }
+    let LinkRecordings { signal, gain } = LinkRecordings::open(signal, gain)?;
+    let rate = signal.rate();
+    let text = replay_chain(heap, settings, signal, gain, steps)?;
+    Ok(Transcript { rate, text })
 }
 
 fn steps_of(heap: Global, text: &[u8]) -> Result<Vec<Numbered<Step>>, Refusal>
     ensures { RefusedByText result }
 {
-    let mut steps = Vec::new(heap);
-    match read_lines(heap, text, &mut steps) {
-        Ok(()) => Ok(steps),
-        Err(wrong) => Err(refusal_of(Input::Calls, LineFault::from(wrong))),
-    }
+    read_all(heap, text).map_err(|wrong| refusal_of(Input::Calls, LineFault::from(wrong)))
 }
 
 // Reads the settings and the calls, and makes the calls.
@@ -95,13 +69,9 @@ fn replay(
 ) -> Result<Transcript, Refusal>
     ensures { Tells signal.now gain.now result }
 {
-    match settings_of(heap, settings) {
-        Ok(made) => match steps_of(heap, calls) {
-            Ok(steps) => replay_recordings(heap, &made, signal, gain, steps.as_slice()),
-            Err(refusal) => Err(refusal),
-        },
-        Err(refusal) => Err(refusal),
-    }
+    let made = settings_of(heap, settings)?;
+    let steps = steps_of(heap, calls)?;
+    replay_recordings(heap, &made, signal, gain, steps.as_slice())
 }
 
 // Puts the text at the start of the buffer, if there is room for all of it; answers its length.
@@ -120,16 +90,10 @@ fn deliver(transcript: Result<Transcript, Refusal>, out: &mut [u8]) -> Result<Re
     ensures answer { result ≡ replay_answer transcript (length out.old) }
     ensures buffer { out.new ≡ after_replay transcript out.old }
 {
-    match transcript {
-        Ok(told) => match put(told.text.as_bytes(), out) {
-            Ok(items) => {
-                let ending = None;
-                Ok(Report::heard(told.rate, Heard { items, ending }))
-            }
-            Err(refusal) => Err(refusal),
-        },
-        Err(refusal) => Err(refusal),
-    }
+    let Transcript { rate, text } = transcript?;
+    let items = put(text.as_bytes(), out)?;
+    let ending = None;
+    Ok(Report::heard(rate, Heard { items, ending }))
 }
 
 // Makes the calls of the text on one player over the standard chain, and writes a line for each answer.

@@ -5,7 +5,7 @@ ghost use Rattle.capi.specs.Reports.{heard_report, refused_report};
 use crate::refusal::Input;
 use source::fault::Ending;
 
-// The fields that a call has nothing to tell of are 0.
+// The fields that a call has nothing to tell of are 0. Numbers throughout: C has no enums of ours.
 #[repr(C)]
 #[derive(Clone, Copy)]
 pub struct Report {
@@ -32,37 +32,46 @@ pub struct Heard {
     pub ending: Option<Ending>,
 }
 
+// A report that tells nothing.
+const NOTHING: Report = Report {
+    rate: 0,
+    ended: 0,
+    fault: 0,
+    input: 0,
+    items: 0,
+    item: 0,
+    place: 0,
+};
+
 impl Report {
     pub(crate) fn heard(rate: u32, heard: Heard) -> Report
         ensures { result ≡ heard_report rate heard }
     {
-        let mut report = Report::refused(Input::Signal, 0);
-        report.rate = rate;
-        report.items = heard.items;
+        let report = Report {
+            rate,
+            items: heard.items,
+            ..NOTHING
+        };
         match heard.ending {
-            None => {}
-            Some(Ending::Finished) => report.ended = 1,
-            Some(Ending::Faulted(fault)) => {
-                report.ended = 1;
-                report.fault = fault.kind.number() as u32;
-                report.input = fault.input as u32;
-                report.item = fault.item;
-            }
+            None => report,
+            Some(Ok(())) => Report { ended: 1, ..report },
+            Some(Err(fault)) => Report {
+                ended: 1,
+                fault: fault.kind.number() as u32,
+                input: fault.input as u32,
+                item: fault.item,
+                ..report
+            },
         }
-        report
     }
 
     pub(crate) fn refused(input: Input, place: u64) -> Report
         ensures { result ≡ refused_report input place }
     {
         Report {
-            rate: 0,
-            ended: 0,
-            fault: 0,
             input: input.number() as u32,
-            items: 0,
-            item: 0,
             place,
+            ..NOTHING
         }
     }
 }

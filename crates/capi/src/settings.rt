@@ -26,8 +26,5 @@ pub(crate) fn settings_of(heap: Global, text: &[u8]) -> Result<Settings, Refusal
     if text.is_empty() {
         return Ok(Settings::fresh());
     }
-    match reader::read(heap, text) {
-        Ok(settings) => Ok(settings),
-        Err(fault) => Err(refusal_of(Input::Settings, fault)),
-    }
+    reader::read(heap, text).map_err(|fault| refusal_of(Input::Settings, fault))
 }

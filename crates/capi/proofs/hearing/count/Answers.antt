@@ -1,21 +1,20 @@
 use Rattle.std.proofs.Common.{ap, ◌∙◌}
 use Rattle.capi.specs.Hearing.{most}
-use Rattle.player.specs.Standing.{standing}
 use Rattle.std.specs.Result.{result_unwrap_or}
 use Rattle.capi.proofs.Listening.{listened}
 use Rattle.capi.proofs.hearing.count.Goals as goal
 
 pub ending_met-ending-requires : goal.ending_met-ending-requires
 ending_met-ending-requires g c =
-    let s = standing g.S.Source.whole g.S.Source.left c.new-player.result in
-    let s' = standing g.S.Source.whole g.S.Source.left c.skip.new.self in
+    let s = c.new-player.result in
+    let s' = c.skip.new.self in
     (listened most (g.S.Source.whole c.args.source) s s' c.unwrap_or-items.result c.new-player.ensures.stands c.skip.ensures.moves
     (c.unwrap_or-items.ensures ∙ ap (λ r. result_unwrap_or r 0) c.skip.ensures.answers)).spent
 
 pub returns : goal.returns
 returns g c =
-    let s = standing g.S.Source.whole g.S.Source.left c.new-player.result in
-    let s' = standing g.S.Source.whole g.S.Source.left c.skip.new.self in
+    let s = c.new-player.result in
+    let s' = c.skip.new.self in
     let l =
     listened most (g.S.Source.whole c.args.source) s s' c.unwrap_or-items.result c.new-player.ensures.stands c.skip.ensures.moves
     (c.unwrap_or-items.ensures ∙ ap (λ r. result_unwrap_or r 0) c.skip.ensures.answers) in

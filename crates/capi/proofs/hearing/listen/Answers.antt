@@ -1,19 +1,16 @@
 use Rattle.std.proofs.Common.{◌≡◌, ℕ, ◌<◌, cond, ltb, length, Some, None, ap, ◌∙◌, subst}
 use Rattle.std.specs.Result.{result_unwrap_or}
 use Rattle.source.specs.Streams.{Stream}
-use Rattle.stages.specs.Meanings.{each_whole, each_left}
 use Rattle.stages.specs.Wholes.{each}
-use Rattle.player.specs.Standing.{standing, Stands}
+use Rattle.player.specs.Standing.{Stands}
 use Rattle.capi.specs.Playing.{parts}
 use Rattle.capi.proofs.Listening.{listened, buffer_told, mapped}
 use Rattle.capi.proofs.hearing.listen.Goals as goal
 
 pub ending_met-ending-requires : goal.ending_met-ending-requires
 ending_met-ending-requires g c κs =
-    let W = each_whole (λ _ x. parts x) g.S.Source.whole in
-    let L = each_left (λ _ x. parts x) g.S.Source.left in
-    let s = standing W L c.new-player.result in
-    let s' = standing W L c.fill.new.self in
+    let s = c.new-player.result in
+    let s' = c.fill.new.self in
     let w = each parts (g.S.Source.whole c.args.source) in
     let n = length c.args.out.now in
     let k : length c.fill.new.buffer ≡ n = c.fill.auto.buffer in
@@ -23,10 +20,8 @@ ending_met-ending-requires g c κs =
 
 pub returns : goal.returns
 returns g c =
-    let W = each_whole (λ _ x. parts x) g.S.Source.whole in
-    let L = each_left (λ _ x. parts x) g.S.Source.left in
-    let s = standing W L c.new-player.result in
-    let s' = standing W L c.fill.new.self in
+    let s = c.new-player.result in
+    let s' = c.fill.new.self in
     let below = g.S.Source.whole c.args.source in
     let w = each parts below in
     let n = length c.args.out.now in
