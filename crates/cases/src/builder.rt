@@ -7,12 +7,18 @@
 use anyhow::anyhow;
 use std::alloc::Global;
 
-// A byte string that grows; where a `length` stands in it, and what it adds to the number of all bytes.
+// A field for the length: where it stands, and what it adds to the number of all bytes.
+#[derive(Clone, Copy)]
+struct Length {
+    at: usize,
+    adds: i64,
+}
+
+// A byte string that grows.
 #[derive(Drop)]
 struct Builder {
     bytes: Vec<u8>,
-    length_at: usize,
-    length_adds: Option<i64>,
+    length: Option<Length>,
 }
 
 // The words that a word stands for.
@@ -25,42 +31,19 @@ fn spelled(word: &str) -> &str {
     }
 }
 
-fn digit(letter: u8) -> anyhow::Result<u8> {
-    match letter {
-        b'0'..=b'9' => Ok(letter - b'0'),
-        b'A'..=b'F' => Ok(letter - b'A' + 10),
-        _ => Err(anyhow!("a hexadecimal digit is 0 to 9 or A to F")),
-    }
-}
-
 impl Builder {
     fn letters(&mut self, text: &str) -> anyhow::Result<()> {
-        for letter in text.bytes() {
-            match letter {
-                b'"' => {}
-                b'_' => self.bytes.push(b' ')?,
-                _ => self.bytes.push(letter)?,
-            }
-        }
-        Ok(())
-    }
-
-    fn hexadecimal(&mut self, text: &str) -> anyhow::Result<()> {
-        for pair in text.as_bytes().chunks(2) {
-            let [high, low] = pair else {
-                return Err(anyhow!("hexadecimal digits come in pairs"));
-            };
-            self.bytes.push(digit(*high)? << 4 | digit(*low)?)?;
+        for letter in text.bytes().filter(|letter| *letter != b'"') {
+            self.bytes.push(if letter == b'_' { b' ' } else { letter })?;
         }
         Ok(())
     }
 
     // Leaves room for the length, which is known at the end.
     fn length(&mut self, adds: i64) -> anyhow::Result<()> {
-        self.length_at = self.bytes.len();
-        self.length_adds = Some(adds);
-        self.bytes.extend_from_slice(&[0; 4])?;
-        Ok(())
+        let at = self.bytes.len();
+        self.length = Some(Length { at, adds });
+        Ok(self.bytes.extend_from_slice(&[0; 4])?)
     }
 
     fn word(&mut self, word: &str) -> anyhow::Result<()> {
@@ -73,7 +56,8 @@ impl Builder {
             let bytes = number.parse::<u32>()?.to_le_bytes();
             Ok(self.bytes.extend_from_slice(&bytes)?)
         } else if let Some(digits) = word.strip_prefix('x') {
-            self.hexadecimal(digits)
+            let bytes = hex::decode(*self.bytes.allocator(), digits)?;
+            Ok(self.bytes.extend_from_slice(bytes.as_slice())?)
         } else {
             match word {
                 "length" => self.length(-8),
@@ -95,18 +79,12 @@ impl Builder {
     }
 
     fn finish(self) -> anyhow::Result<Vec<u8>> {
-        let Builder {
-            mut bytes,
-            length_at,
-            length_adds,
-        } = self;
-        if let Some(adds) = length_adds {
+        let Builder { mut bytes, length } = self;
+        if let Some(Length { at, adds }) = length {
             let length = i64::try_from(bytes.len())?.saturating_add(adds);
             let field = u32::try_from(length)?.to_le_bytes();
-            for (place, byte) in field.iter().enumerate() {
-                if let Some(room) = bytes.get_mut(length_at.saturating_add(place)) {
-                    *room = *byte;
-                }
+            for (room, byte) in bytes.iter_mut().skip(at).zip(field) {
+                *room = byte;
             }
         }
         Ok(bytes)
@@ -117,13 +95,13 @@ impl Builder {
 pub(crate) fn bytes(heap: Global, words: &str) -> anyhow::Result<Vec<u8>> {
     let mut builder = Builder {
         bytes: Vec::new(heap),
-        length_at: 0,
-        length_adds: None,
+        length: None,
     };
-    for word in words.split_whitespace() {
-        for part in spelled(word).split_whitespace() {
-            builder.repeated(part)?;
-        }
+    for part in words
+        .split_whitespace()
+        .flat_map(|word| spelled(word).split_whitespace())
+    {
+        builder.repeated(part)?;
     }
     builder.finish()
 }

@@ -4,21 +4,21 @@
 #![tactic(auto)]
 
 mod builder;
-mod damaged;
+mod cases;
 mod opening;
 mod rewriting;
-mod table;
+mod showing;
 mod writing;
 
-use table::{Section, Tally};
+use cases::Cases;
 
 fn run(rt: &HostRuntime) -> anyhow::Result<()> {
-    let mut tally = Tally::new();
-    table::compare(rt, "openings.txt", Section::Opening, &mut tally)?;
-    table::compare(rt, "writings.txt", Section::Writing, &mut tally)?;
-    table::compare(rt, "rewritings.txt", Section::Rewriting, &mut tally)?;
-    damaged::compare(rt, "expected.txt", &mut tally)?;
-    tally.close(rt)
+    let mut cases = Cases::new(rt);
+    cases.table("openings.txt", opening::answer)?;
+    cases.table("writings.txt", writing::answer)?;
+    cases.table("rewritings.txt", rewriting::answer)?;
+    cases.damaged("expected.txt")?;
+    cases.close()
 }
 
 fn main(rt: HostRuntime) -> anyhow::Result<()> {

@@ -1,16 +1,19 @@
 // What opening answers: `refused 10 at byte 28`, or the rate, the items and the ending.
 use crate::builder;
+use crate::showing::Refused;
 use anyhow::anyhow;
+use comparison::ending::{AtItem, Ends};
+use comparison::whole::Whole;
 use recordings::layout::{Gains, Layout, Signal};
+use recordings::pair::Input;
 use recordings::recording::Recording;
 use samples::converter::ConverterSample;
 use samples::gain_index::GainIndex;
-use source::source::Source;
 use std::alloc::Global;
 use std::fmt::Write;
-use wave::refusal::OpeningRefusal;
 
 // An item that a case can show.
+// Added to the text, as an answer is built of several.
 trait Shown: Copy {
     fn show(self, text: &mut String) -> anyhow::Result<()>;
 }
@@ -30,54 +33,36 @@ impl Shown for GainIndex {
     }
 }
 
-// Adds the items that the source hands out, and its ending.
-fn show_items<S: Source + Drop>(mut source: S, text: &mut String) -> anyhow::Result<()>
-where
-    S::Item: Shown,
-{
-    for _ in 0..u64::MAX {
-        match source.next() {
-            Ok(Some(item)) => item.show(text)?,
-            Ok(None) => return Ok(text.push_str(" finished")?),
-            Err(fault) => {
-                let number = fault.kind.number();
-                let item = fault.item;
-                return Ok(write!(text, " fault {number} at item {item}")?);
-            }
-        }
-    }
-    Ok(())
-}
-
-pub(crate) fn show_refusal(refusal: OpeningRefusal, text: &mut String) -> anyhow::Result<()> {
-    let number = refusal.number();
-    let place = refusal.place();
-    Ok(write!(text, "refused {number} at byte {place}")?)
-}
-
-fn opened_as<'a, L: Layout>(bytes: &'a [u8], text: &mut String) -> anyhow::Result<()>
+fn opened_as<'a, L: Layout>(heap: Global, input: Input, bytes: &'a [u8]) -> anyhow::Result<String>
 where
     L::Item: Shown,
 {
-    match Recording::<'a, L>::open(bytes, 0) {
-        Ok(recording) => {
-            let rate = recording.rate();
-            write!(text, "rate {rate}:")?;
-            show_items(recording, text)
+    let mut recording = match Recording::<'a, L>::open(bytes, input.number()) {
+        Ok(recording) => recording,
+        Err(refusal) => {
+            let refused = Refused(refusal);
+            return Ok(format!(in heap; "{refused}")?);
         }
-        Err(refusal) => show_refusal(refusal, text),
+    };
+    let rate = recording.rate();
+    let mut text = format!(in heap; "rate {rate}:")?;
+    let whole = Whole::of(heap, &mut recording)?;
+    for item in whole.items.iter() {
+        item.show(&mut text)?;
     }
+    let ends = Ends(whole.ending.map_err(AtItem));
+    write!(text, " {ends}")?;
+    Ok(text)
 }
 
 // What opening the bytes as a recording of this kind answers.
 pub(crate) fn opened(heap: Global, kind: &str, bytes: &[u8]) -> anyhow::Result<String> {
-    let mut text = String::new(heap);
+    // A word becomes a type here.
     match kind {
-        "signal" => opened_as::<Signal>(bytes, &mut text)?,
-        "gain" => opened_as::<Gains>(bytes, &mut text)?,
-        _ => return Err(anyhow!("a recording is opened as signal or gain")),
+        "signal" => opened_as::<Signal>(heap, Input::Signal, bytes),
+        "gain" => opened_as::<Gains>(heap, Input::Gain, bytes),
+        _ => Err(anyhow!("a recording is opened as signal or gain")),
     }
-    Ok(text)
 }
 
 // The same for bytes that are spelled in words.

@@ -1,12 +1,13 @@
 // What rewriting answers: length and samples of each part, the ending, and then the bytes of the buffer.
 use crate::builder;
-use crate::opening::show_refusal;
+use crate::showing::Refused;
 use crate::writing::{UNWRITTEN, show_bytes};
 use anyhow::anyhow;
-use recorder::refusal::{RewritingRefusal, WritingRefusal};
+use comparison::ending::{AtItem, Ends};
+use recorder::refusal::RewritingRefusal;
 use recorder::session::{Part, record, rewrite};
+use recordings::pair::Input;
 use samples::converter::ConverterSample;
-use source::fault::Ending;
 use source::source::Source;
 use std::alloc::Global;
 use std::fmt::Write;
@@ -14,6 +15,7 @@ use std::fmt::Write;
 // No case asks for more parts.
 const PARTS: u32 = 3;
 
+// Added to the text, as an answer is built of several.
 fn show_part(part: Part, text: &mut String) -> anyhow::Result<()> {
     let length = part.length;
     let samples = part.samples;
@@ -21,18 +23,14 @@ fn show_part(part: Part, text: &mut String) -> anyhow::Result<()> {
         text.push(' ')?;
     }
     write!(text, "{length}/{samples}")?;
-    match part.ending {
-        None => Ok(()),
-        Some(Ending::Finished) => Ok(text.push_str(" finished")?),
-        Some(Ending::Faulted(fault)) => {
-            let number = fault.kind.number();
-            let item = fault.item;
-            Ok(write!(text, " fault {number} at item {item}")?)
-        }
+    if let Some(ending) = part.ending {
+        let ends = Ends(ending.map_err(AtItem));
+        write!(text, " {ends}")?;
     }
+    Ok(())
 }
 
-// The parts from the first on, each written over the one before.
+// The parts from the first on, each written over the one before; added to the text, as they come one by one.
 fn show_parts<S: Source<Item = ConverterSample>>(
     first: Part,
     rate: u32,
@@ -44,10 +42,9 @@ fn show_parts<S: Source<Item = ConverterSample>>(
     show_part(part, text)?;
     for _ in 1..PARTS {
         if part.ending.is_none() {
-            match record(source, rate, buffer) {
-                Ok(next) => part = next,
-                Err(_) => return Err(anyhow!("a further part is refused")),
-            }
+            part = record(source, rate, buffer).map_err(|refusal| anyhow!(
+                "a further part is refused: {refusal}"
+            ))?;
             show_part(part, text)?;
         }
     }
@@ -58,7 +55,11 @@ pub(crate) fn answer(heap: Global, room: &str, words: &str) -> anyhow::Result<St
     let bytes = builder::bytes(heap, words)?;
     let mut buffer = vec![in heap; UNWRITTEN; room.parse::<usize>()?]?;
     let mut text = String::new(heap);
-    match rewrite(bytes.as_slice(), 0, buffer.as_mut_slice()) {
+    match rewrite(
+        bytes.as_slice(),
+        Input::Signal.number(),
+        buffer.as_mut_slice(),
+    ) {
         Ok((first, mut recording)) => {
             let rate = recording.rate();
             show_parts(
@@ -69,7 +70,10 @@ pub(crate) fn answer(heap: Global, room: &str, words: &str) -> anyhow::Result<St
                 &mut text,
             )?;
         }
-        Err(RewritingRefusal::Opening(refusal)) => show_refusal(refusal, &mut text)?,
+        Err(RewritingRefusal::Opening(refusal)) => {
+            let refused = Refused(refusal);
+            write!(text, "{refused}")?;
+        }
         Err(RewritingRefusal::Writing(refusal)) => {
             let number = refusal.number();
             write!(text, "refused {number}")?;

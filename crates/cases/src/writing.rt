@@ -15,15 +15,22 @@ pub const UNWRITTEN: u8 = 0xEE;
 // The bytes of a longer buffer are not shown.
 const SHOWN: usize = 64;
 
-// What is asked of the writer: the rate, the bytes of the buffer, how many of them are lent at each call, and how to end.
+// How a recording is closed: finished, in so many bytes of the buffer if not in all, or abandoned.
+#[derive(Clone, Copy)]
+enum Closing {
+    Finish(Option<usize>),
+    Abandon,
+}
+
+// What is asked of the writer: the rate, the bytes of the buffer, how many of them are lent at each call if not all, and
+// how to close.
 #[derive(Clone, Copy)]
 struct Task {
     rate: u32,
     bytes: usize,
-    start: usize,
-    put: usize,
-    finish: usize,
-    abandon: bool,
+    start: Option<usize>,
+    put: Option<usize>,
+    closing: Closing,
 }
 
 // A sample, and how often it is put in.
@@ -33,19 +40,19 @@ struct Run {
     times: u32,
 }
 
+// The length of a finished recording, or the samples of an abandoned one.
 #[derive(Clone, Copy)]
 enum End {
     Finished(usize),
     Abandoned(u32),
-    Refused(WritingRefusal),
 }
 
-// How many samples were put in, the refusal of the last that was not, and the end.
+// How many samples were put in, the refusal of the last that was not, and the end, or why there is none.
 #[derive(Clone, Copy)]
 struct Outcome {
     put: u32,
     refused: Option<WritingRefusal>,
-    end: End,
+    end: Result<End, WritingRefusal>,
 }
 
 impl fmt::Display for Outcome {
@@ -57,9 +64,9 @@ impl fmt::Display for Outcome {
             write!(f, ", refused {number}")?;
         }
         match self.end {
-            End::Finished(length) => write!(f, ", length {length}"),
-            End::Abandoned(samples) => write!(f, ", abandoned {samples}"),
-            End::Refused(refusal) => {
+            Ok(End::Finished(length)) => write!(f, ", length {length}"),
+            Ok(End::Abandoned(samples)) => write!(f, ", abandoned {samples}"),
+            Err(refusal) => {
                 let number = refusal.number();
                 write!(f, ", finish refused {number}")
             }
@@ -72,44 +79,41 @@ fn parse_task(words: &str) -> anyhow::Result<Task> {
     let mut task = Task {
         rate: 8000,
         bytes: 0,
-        start: usize::MAX,
-        put: usize::MAX,
-        finish: usize::MAX,
-        abandon: false,
+        start: None,
+        put: None,
+        closing: Closing::Finish(None),
     };
     for word in words.split_whitespace() {
         match word.split_once('=') {
             Some(("rate", rate)) => task.rate = rate.parse::<u32>()?,
             Some(("bytes", bytes)) => task.bytes = bytes.parse::<usize>()?,
-            Some(("start", bytes)) => task.start = bytes.parse::<usize>()?,
-            Some(("put", bytes)) => task.put = bytes.parse::<usize>()?,
-            Some(("finish", bytes)) => task.finish = bytes.parse::<usize>()?,
-            _ => task.abandon = word == "abandon",
+            Some(("start", bytes)) => task.start = Some(bytes.parse::<usize>()?),
+            Some(("put", bytes)) => task.put = Some(bytes.parse::<usize>()?),
+            Some(("finish", bytes)) => {
+                task.closing = Closing::Finish(Some(bytes.parse::<usize>()?));
+            }
+            None if word == "abandon" => task.closing = Closing::Abandon,
+            _ => {}
         }
     }
     Ok(task)
 }
 
-// Reads samples as `100,-3` and, where one is put in several times, `100,-3,7`.
-fn parse_runs(heap: Global, words: &str) -> anyhow::Result<Vec<Run>> {
-    let mut runs = Vec::new(heap);
-    for word in words.split_whitespace() {
-        let mut numbers = word.split(',');
-        let (Some(re), Some(im)) = (numbers.next(), numbers.next()) else {
-            return Err(anyhow!("a sample has two parts"));
-        };
-        let times = numbers.next().unwrap_or("1").parse::<u32>()?;
-        let sample = ConverterSample::new(re.parse::<i64>()?, im.parse::<i64>()?);
-        runs.push(Run { sample, times })?;
-    }
-    Ok(runs)
+// Reads a sample as `100,-3` or, where it is put in several times, `100,-3,7`.
+fn parse_run(word: &str) -> anyhow::Result<Run> {
+    let mut numbers = word.split(',');
+    let (Some(re), Some(im)) = (numbers.next(), numbers.next()) else {
+        return Err(anyhow!("a sample has two parts"));
+    };
+    let times = numbers.next().unwrap_or("1").parse::<u32>()?;
+    let sample = ConverterSample::new(re.parse::<i64>()?, im.parse::<i64>()?);
+    Ok(Run { sample, times })
 }
 
-// The first bytes of a buffer, at most as many as are asked for.
-fn lent(bytes: &mut [u8], length: usize) -> &mut [u8] {
-    let end = length.min(bytes.len());
-    let (front, _) = bytes.split_at_mut(end);
-    front
+// The first bytes of a buffer, as many as are asked for; all where there are no more, or nothing is said.
+fn lent(bytes: &mut [u8], length: Option<usize>) -> &mut [u8] {
+    let end = length.unwrap_or(bytes.len()).min(bytes.len());
+    &mut bytes[..end]
 }
 
 fn put_all(
@@ -130,12 +134,13 @@ fn put_all(
     (put, refused)
 }
 
-fn finish(recording: StartedRecording, bytes: &mut [u8]) -> End {
+// What is refused comes back, and is let go.
+fn finish(recording: StartedRecording, bytes: &mut [u8]) -> Result<End, WritingRefusal> {
     match recording.finish(bytes) {
-        Ok(length) => End::Finished(length),
+        Ok(length) => Ok(End::Finished(length)),
         Err((refusal, back)) => {
             back.abandon();
-            End::Refused(refusal)
+            Err(refusal)
         }
     }
 }
@@ -144,29 +149,29 @@ fn finish(recording: StartedRecording, bytes: &mut [u8]) -> End {
 fn written(task: Task, bytes: &mut [u8], runs: &[Run]) -> Result<Outcome, WritingRefusal> {
     let mut recording = StartedRecording::start(lent(bytes, task.start), task.rate)?;
     let (put, refused) = put_all(&mut recording, lent(bytes, task.put), runs);
-    let end = if task.abandon {
-        End::Abandoned(recording.abandon())
-    } else {
-        finish(recording, lent(bytes, task.finish))
+    let end = match task.closing {
+        Closing::Finish(length) => finish(recording, lent(bytes, length)),
+        Closing::Abandon => Ok(End::Abandoned(recording.abandon())),
     };
     Ok(Outcome { put, refused, end })
 }
 
-// Adds the bytes of a small buffer in hexadecimal.
+// The bytes of a small buffer in hexadecimal.
+// Added to the text, as an answer is built of several.
 pub(crate) fn show_bytes(bytes: &[u8], text: &mut String) -> anyhow::Result<()> {
     if !bytes.is_empty() && bytes.len() <= SHOWN {
-        text.push_str(": ")?;
-        for byte in bytes {
-            let byte = *byte;
-            write!(text, "{byte:02X}")?;
-        }
+        let digits = hex::encode_upper(*text.allocator(), bytes)?;
+        write!(text, ": {digits}")?;
     }
     Ok(())
 }
 
 pub(crate) fn answer(heap: Global, what: &str, samples: &str) -> anyhow::Result<String> {
     let task = parse_task(what)?;
-    let runs = parse_runs(heap, samples)?;
+    let runs = samples
+        .split_whitespace()
+        .map(parse_run)
+        .try_collect::<Vec<Run>>(heap)?;
     let mut bytes = vec![in heap; UNWRITTEN; task.bytes]?;
     let mut text = String::new(heap);
     match written(task, bytes.as_mut_slice(), runs.as_slice()) {

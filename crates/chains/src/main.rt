@@ -4,25 +4,45 @@
 // What comes out is recorded and compared byte for byte; the answers are compared line by line.
 #![tactic(auto)]
 
-mod inputs;
-mod runs;
+mod run;
 
-use runs::Tally;
+use anyhow::ensure;
+use comparison::table::is_entry;
+use comparison::tally::Tally;
+use run::Run;
 use std::fs;
 
-fn run(rt: &HostRuntime) -> anyhow::Result<()> {
+// Compares the run of this name with its files, and prints a line; answers whether it gives what it should.
+fn compare(rt: &HostRuntime, name: &str, expected: &str) -> anyhow::Result<bool> {
+    let outcome = Run::read(rt, name)?.outcome()?;
+    let right = outcome.as_str() == expected;
+    if right {
+        println!(rt; "{name}: {expected}: ok")?;
+    } else {
+        println!(rt; "{name}: expected {expected}, got {outcome}")?;
+    }
+    Ok(right)
+}
+
+// Each program counts something else, and says it in its own words.
+fn run_all(rt: &HostRuntime) -> anyhow::Result<()> {
     let text = fs::read_to_string(rt, "runs.txt")?;
     let mut tally = Tally::new();
-    for line in text.lines() {
+    for line in text.lines().filter(|line| is_entry(line)) {
         if let Some((name, expected)) = line.split_once(" | ") {
-            if !line.starts_with('#') {
-                tally.compare(rt, name, expected)?;
-            }
+            tally.count(compare(rt, name, expected)?);
         }
     }
-    tally.close(rt)
+    let runs = tally.cases;
+    let wrong = tally.wrong;
+    println!(rt; "{runs} runs, {wrong} wrong")?;
+    ensure!(
+        wrong == 0,
+        "a run of the standard chain gives something else than it should"
+    );
+    Ok(())
 }
 
 fn main(rt: HostRuntime) -> anyhow::Result<()> {
-    run(&rt)
+    run_all(&rt)
 }

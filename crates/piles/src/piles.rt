@@ -1,5 +1,5 @@
 // The piles, from their lowest sources up.
-use crate::comparison::{Tally, compare};
+use crate::against_files::Piles;
 use crate::inputs::{Take, gain_bytes, open_gains, open_signal, signal_bytes};
 use crate::settings;
 use impairments::adding::Adding;
@@ -24,6 +24,7 @@ use stages::lead::Lead;
 use stages::noise::Noise;
 use stages::pairing::Pairing;
 use stages::scan::Scan;
+use stages::seeds::Seeds;
 use turns::frequency::FrequencyOffset;
 
 // The paths below and above the clock.
@@ -72,149 +73,47 @@ const CORNER: WorkingSample = WorkingSample {
     im: 32767,
 };
 
-// Two multipaths around a clock offset.
-pub(crate) fn multipaths_around_clock(
-    rt: &HostRuntime,
-    tally: &mut Tally,
-    name: &str,
-    signal: Take,
-    c: i64,
-) -> anyhow::Result<()> {
-    let bytes = signal_bytes(rt.alloc(), signal)?;
-    let recording = open_signal(bytes.as_slice())?;
-    let scaled = Each::new(Scaling::new(2048), recording);
-    let lower = Scan::new(Multipath::new(settings::paths(&LOWER)?), scaled);
-    let clocked = Clock::new(false, settings::clock_offset(c)?, lower);
-    let mut upper = Scan::new(Multipath::new(settings::paths(&UPPER)?), clocked);
-    compare(rt, tally, name, &mut upper)
-}
+// A signal on the air, with noise, and with the gains that its indices choose.
+type OnAir<S> = Each<Each<S, Scaling>, ChannelGain>;
 
-// A lead below a clock offset.
-pub(crate) fn lead_below_clock(
-    rt: &HostRuntime,
-    tally: &mut Tally,
-    name: &str,
-    signal: Take,
-    c: i64,
-) -> anyhow::Result<()> {
-    let bytes = signal_bytes(rt.alloc(), signal)?;
-    let recording = open_signal(bytes.as_slice())?;
-    let scaled = Each::new(Scaling::new(4096), recording);
-    let first = WorkingSample {
-        re: 1234,
-        im: -4321,
-    };
-    let led = Lead::new(5, first, scaled);
-    let mut clocked = Clock::new(false, settings::clock_offset(c)?, led);
-    compare(rt, tally, name, &mut clocked)
-}
+type Noisy<S> = Each<Pairing<S, Noise>, Adding>;
 
-// A clock offset over another.
-pub(crate) fn clock_over_clock(
-    rt: &HostRuntime,
-    tally: &mut Tally,
-    name: &str,
-    signal: Take,
-    lower: i64,
-    upper: i64,
-) -> anyhow::Result<()> {
-    let bytes = signal_bytes(rt.alloc(), signal)?;
-    let recording = open_signal(bytes.as_slice())?;
-    let scaled = Each::new(Scaling::new(4096), recording);
-    let once = Clock::new(false, settings::clock_offset(lower)?, scaled);
-    let mut twice = Clock::new(false, settings::clock_offset(upper)?, once);
-    compare(rt, tally, name, &mut twice)
-}
-
-// A frequency offset over a clock offset over a lead.
-fn turned<S: Source<Item = WorkingSample> + Drop>(
-    rt: &HostRuntime,
-    tally: &mut Tally,
-    name: &str,
-    below: S,
-    c: i64,
-) -> anyhow::Result<()> {
-    let led = Lead::new(4, CORNER, below);
-    let clocked = Clock::new(false, settings::clock_offset(c)?, led);
-    let mut turned = Scan::new(FrequencyOffset::new(TURN), clocked);
-    compare(rt, tally, name, &mut turned)
-}
-
-// The same over a held item.
-pub(crate) fn turned_held(
-    rt: &HostRuntime,
-    tally: &mut Tally,
-    name: &str,
-    times: u32,
-    c: i64,
-) -> anyhow::Result<()> {
-    let item = WorkingSample {
-        re: 20000,
-        im: -30000,
-    };
-    turned(rt, tally, name, Held::new(item, times), c)
-}
-
-// The same over a signal.
-pub(crate) fn turned_signal(
-    rt: &HostRuntime,
-    tally: &mut Tally,
-    name: &str,
-    signal: Take,
-    c: i64,
-) -> anyhow::Result<()> {
-    let bytes = signal_bytes(rt.alloc(), signal)?;
-    let recording = open_signal(bytes.as_slice())?;
-    let scaled = Each::new(Scaling::new(3000), recording);
-    turned(rt, tally, name, scaled, c)
-}
-
-// Noise added twice: the first source of a pairing is a pairing.
-fn noisy_twice<S: Source<Item = AirSample> + Drop>(
-    rt: &HostRuntime,
-    tally: &mut Tally,
-    name: &str,
-    air: S,
-    inner: u32,
-    outer: u32,
-) -> anyhow::Result<()> {
-    let beside_inner = Pairing::new(air, Noise::new(settings::seeds(7, 8)?, inner));
-    let once = Each::new(Adding, beside_inner);
-    let beside_outer = Pairing::new(once, Noise::new(settings::seeds(1, 12345)?, outer));
-    let mut twice = Each::new(Adding, beside_outer);
-    compare(rt, tally, name, &mut twice)
-}
-
-// The same over a signal on the air, with so many items of noise each.
-pub(crate) fn noise_twice(
-    rt: &HostRuntime,
-    tally: &mut Tally,
-    name: &str,
-    signal: Take,
-    inner: u32,
-    outer: u32,
-) -> anyhow::Result<()> {
-    let bytes = signal_bytes(rt.alloc(), signal)?;
-    let recording = open_signal(bytes.as_slice())?;
-    let scaled = Each::new(Scaling::new(1631), recording);
-    let air = Each::new(ChannelGain::new(settings::gain(2, 155)?), scaled);
-    noisy_twice(rt, tally, name, air, inner, outer)
-}
-
-// Where a receiver ends: behind its gain, or behind its converter.
-#[derive(Clone, Copy)]
-pub(crate) enum End {
-    Gain,
-    Converter,
-}
+type Gained<S, G> = Each<Pairing<S, Lead<G>>, ReceiveGain>;
 
 // DC offset, imbalance and converter.
-fn converted<S: Source<Item = AirSample> + Drop>(
-    rt: &HostRuntime,
-    tally: &mut Tally,
-    name: &str,
-    gained: S,
-) -> anyhow::Result<()> {
+type Converted<S> = Each<Each<Each<S, DcOffset<AirSample>>, Imbalance<AirSample>>, Quantizer>;
+
+// A signal on the air: scaling, and the gain of the path.
+fn on_air<S: Source<Item = ConverterSample> + Drop>(signal: S) -> anyhow::Result<OnAir<S>> {
+    let scaled = Each::new(Scaling::new(1631), signal);
+    Ok(Each::new(ChannelGain::new(settings::gain(2, 155)?), scaled))
+}
+
+// Noise of so many items added.
+fn noisy<S: Source<Item = AirSample>>(air: S, seeds: Seeds, items: u32) -> Noisy<S> {
+    Each::new(Adding, Pairing::new(air, Noise::new(seeds, items)))
+}
+
+// The gain that an index chooses; the indices come behind a lead.
+fn gained<S: Source<Item = AirSample> + Drop, G: Source<Item = GainIndex> + Drop>(
+    air: S,
+    indices: G,
+) -> anyhow::Result<Gained<S, G>> {
+    let led = Lead::new(3, GainIndex::new(0), indices);
+    let gains = ReceiveGain::new(settings::receive_gains()?);
+    Ok(Each::new(gains, Pairing::new(air, led)))
+}
+
+// A receiver up to its gain, over a signal on the air with noise.
+fn received<S: Source<Item = ConverterSample> + Drop, G: Source<Item = GainIndex> + Drop>(
+    signal: S,
+    indices: G,
+) -> anyhow::Result<Gained<Noisy<OnAir<S>>, G>> {
+    let heard = noisy(on_air(signal)?, settings::seeds(1, 12345)?, 100);
+    gained(heard, indices)
+}
+
+fn converted<S: Source<Item = AirSample>>(air: S) -> Converted<S> {
     let offset = Offset {
         re: -3000,
         im: 20000,
@@ -224,46 +123,121 @@ fn converted<S: Source<Item = AirSample> + Drop>(
         b: 17274,
         c: -905,
     };
-    let shifted = Each::new(DcOffset::<AirSample>::new(offset), gained);
+    let shifted = Each::new(DcOffset::<AirSample>::new(offset), air);
     let balanced = Each::new(Imbalance::<AirSample>::new(balance), shifted);
-    let mut converter = Each::new(Quantizer, balanced);
-    compare(rt, tally, name, &mut converter)
+    Each::new(Quantizer, balanced)
 }
 
-// Noise, then the gain that an index chooses; the indices come behind a lead.
-fn received<S: Source<Item = AirSample> + Drop, G: Source<Item = GainIndex> + Drop>(
-    rt: &HostRuntime,
-    tally: &mut Tally,
-    name: &str,
-    air: S,
-    indices: G,
-    end: End,
-) -> anyhow::Result<()> {
-    let noise = Noise::new(settings::seeds(1, 12345)?, 100);
-    let noisy = Each::new(Adding, Pairing::new(air, noise));
-    let led = Lead::new(3, GainIndex::new(0), indices);
-    let gains = ReceiveGain::new(settings::receive_gains()?);
-    let mut gained = Each::new(gains, Pairing::new(noisy, led));
-    match end {
-        End::Gain => compare(rt, tally, name, &mut gained),
-        End::Converter => converted(rt, tally, name, gained),
+// A frequency offset over a clock offset over a lead.
+fn turned<S: Source<Item = WorkingSample> + Drop>(
+    below: S,
+    c: i64,
+) -> anyhow::Result<Scan<Clock<Lead<S>>, FrequencyOffset>> {
+    let led = Lead::new(4, CORNER, below);
+    let clocked = Clock::new(false, settings::clock_offset(c)?, led);
+    Ok(Scan::new(FrequencyOffset::new(TURN), clocked))
+}
+
+impl Piles<'_> {
+    // Two multipaths around a clock offset.
+    pub(crate) fn multipaths_around_clock(
+        &mut self,
+        name: &str,
+        signal: Take,
+        c: i64,
+    ) -> anyhow::Result<()> {
+        let bytes = signal_bytes(self.heap(), signal)?;
+        let scaled = Each::new(Scaling::new(2048), open_signal(bytes.as_slice())?);
+        let lower = Scan::new(Multipath::new(settings::paths(&LOWER)?), scaled);
+        let clocked = Clock::new(false, settings::clock_offset(c)?, lower);
+        let upper = Scan::new(Multipath::new(settings::paths(&UPPER)?), clocked);
+        self.compare(name, upper)
     }
-}
 
-// A receiver over a signal on the air and its gain indices.
-pub(crate) fn receiver(
-    rt: &HostRuntime,
-    tally: &mut Tally,
-    name: &str,
-    signal: Take,
-    gains: Take,
-    end: End,
-) -> anyhow::Result<()> {
-    let signal_bytes = signal_bytes(rt.alloc(), signal)?;
-    let gain_bytes = gain_bytes(rt.alloc(), gains)?;
-    let recording = open_signal(signal_bytes.as_slice())?;
-    let indices = open_gains(gain_bytes.as_slice())?;
-    let scaled = Each::new(Scaling::new(1631), recording);
-    let air = Each::new(ChannelGain::new(settings::gain(2, 155)?), scaled);
-    received(rt, tally, name, air, indices, end)
+    // A lead below a clock offset.
+    pub(crate) fn lead_below_clock(
+        &mut self,
+        name: &str,
+        signal: Take,
+        c: i64,
+    ) -> anyhow::Result<()> {
+        let bytes = signal_bytes(self.heap(), signal)?;
+        let scaled = Each::new(Scaling::new(4096), open_signal(bytes.as_slice())?);
+        let first = WorkingSample {
+            re: 1234,
+            im: -4321,
+        };
+        let led = Lead::new(5, first, scaled);
+        self.compare(name, Clock::new(false, settings::clock_offset(c)?, led))
+    }
+
+    // A clock offset over another.
+    pub(crate) fn clock_over_clock(
+        &mut self,
+        name: &str,
+        signal: Take,
+        lower: i64,
+        upper: i64,
+    ) -> anyhow::Result<()> {
+        let bytes = signal_bytes(self.heap(), signal)?;
+        let scaled = Each::new(Scaling::new(4096), open_signal(bytes.as_slice())?);
+        let once = Clock::new(false, settings::clock_offset(lower)?, scaled);
+        self.compare(
+            name,
+            Clock::new(false, settings::clock_offset(upper)?, once),
+        )
+    }
+
+    // A frequency offset over a clock offset over a lead over a held item.
+    pub(crate) fn turned_held(&mut self, name: &str, times: u32, c: i64) -> anyhow::Result<()> {
+        let item = WorkingSample {
+            re: 20000,
+            im: -30000,
+        };
+        self.compare(name, turned(Held::new(item, times), c)?)
+    }
+
+    // The same over a signal.
+    pub(crate) fn turned_signal(&mut self, name: &str, signal: Take, c: i64) -> anyhow::Result<()> {
+        let bytes = signal_bytes(self.heap(), signal)?;
+        let scaled = Each::new(Scaling::new(3000), open_signal(bytes.as_slice())?);
+        self.compare(name, turned(scaled, c)?)
+    }
+
+    // Noise added twice, so many items each: the first source of a pairing is a pairing.
+    pub(crate) fn noise_twice(
+        &mut self,
+        name: &str,
+        signal: Take,
+        inner: u32,
+        outer: u32,
+    ) -> anyhow::Result<()> {
+        let bytes = signal_bytes(self.heap(), signal)?;
+        let air = on_air(open_signal(bytes.as_slice())?)?;
+        let once = noisy(air, settings::seeds(7, 8)?, inner);
+        self.compare(name, noisy(once, settings::seeds(1, 12345)?, outer))
+    }
+
+    // A receiver up to its gain, over a signal on the air with noise and its gain indices.
+    pub(crate) fn receive_gain(
+        &mut self,
+        name: &str,
+        signal: Take,
+        gains: Take,
+    ) -> anyhow::Result<()> {
+        let signal_bytes = signal_bytes(self.heap(), signal)?;
+        let gain_bytes = gain_bytes(self.heap(), gains)?;
+        let signal = open_signal(signal_bytes.as_slice())?;
+        let indices = open_gains(gain_bytes.as_slice())?;
+        self.compare(name, received(signal, indices)?)
+    }
+
+    // The same up to its converter.
+    pub(crate) fn receiver(&mut self, name: &str, signal: Take, gains: Take) -> anyhow::Result<()> {
+        let signal_bytes = signal_bytes(self.heap(), signal)?;
+        let gain_bytes = gain_bytes(self.heap(), gains)?;
+        let signal = open_signal(signal_bytes.as_slice())?;
+        let indices = open_gains(gain_bytes.as_slice())?;
+        self.compare(name, converted(received(signal, indices)?))
+    }
 }

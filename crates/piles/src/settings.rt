@@ -8,43 +8,40 @@ use link::settings::Settings;
 use stages::clock_offset::ClockOffset;
 use stages::seeds::Seeds;
 
-fn accepted(answer: Result<(), SettingRefusal>) -> anyhow::Result<()> {
-    match answer {
-        Ok(()) => Ok(()),
-        Err(_) => Err(anyhow!("a setting of a pile is refused")),
-    }
+// Fresh settings with one of them set.
+fn with<F: FnOnce(&mut Settings) -> Result<(), SettingRefusal>>(set: F) -> anyhow::Result<Settings>
+    requires { F.IsAlwaysCallable set }
+{
+    let mut settings = Settings::fresh();
+    set(&mut settings).map_err(|refusal| anyhow!("a setting of a pile is refused: {refusal}"))?;
+    Ok(settings)
 }
 
 pub(crate) fn clock_offset(c: i64) -> anyhow::Result<ClockOffset> {
-    let mut settings = Settings::fresh();
-    accepted(settings.set_clock(c))?;
-    Ok(settings.clock)
+    Ok(with(|settings| settings.set_clock(c))?.clock)
 }
 
 pub(crate) fn paths(given: &[RawPath]) -> anyhow::Result<Paths> {
-    let mut settings = Settings::fresh();
-    accepted(settings.set_paths(given))?;
-    Ok(settings.paths)
+    Ok(with(|settings| settings.set_paths(given))?.paths)
 }
 
 pub(crate) fn gain(shift: i16, factor: u16) -> anyhow::Result<Gain> {
-    let mut settings = Settings::fresh();
-    accepted(settings.set_gain(shift, factor))?;
-    Ok(settings.gain)
+    Ok(with(|settings| settings.set_gain(shift, factor))?.gain)
 }
 
 pub(crate) fn seeds(re: u32, im: u32) -> anyhow::Result<Seeds> {
-    let mut settings = Settings::fresh();
-    accepted(settings.set_seeds(re, im))?;
-    Ok(settings.seeds)
+    Ok(with(|settings| settings.set_seeds(re, im))?.seeds)
+}
+
+fn set_receive_gains(settings: &mut Settings) -> Result<(), SettingRefusal> {
+    for i in 0..128u8 {
+        let shift = i16::from(i % 5) - 2;
+        settings.set_receive_gain(i, shift, 128 + u16::from(i))?;
+    }
+    Ok(())
 }
 
 // Receive gains that are all different: shift (i mod 5) - 2 and factor 128 + i for index i.
 pub(crate) fn receive_gains() -> anyhow::Result<[Gain; 128]> {
-    let mut settings = Settings::fresh();
-    for i in 0..128u8 {
-        let shift = i16::from(i % 5) - 2;
-        accepted(settings.set_receive_gain(i, shift, 128 + u16::from(i)))?;
-    }
-    Ok(settings.receive_gains)
+    Ok(with(set_receive_gains)?.receive_gains)
 }

@@ -1,67 +1,80 @@
 // Random inputs and settings.
 use crate::random::Random;
 use anyhow::anyhow;
+use comparison::whole::Whole;
 use link::paths::RawPath;
 use link::refusal::SettingRefusal;
 use link::settings::Settings;
+use recordings::pair::Input;
 use samples::converter::ConverterSample;
 use samples::gain_index::GainIndex;
 use samples::sample::Sample;
 use source::fault::{Ending, Fault, FaultKind};
 use std::alloc::{AllocError, Global};
 
-// Random items, and an ending for them.
-#[derive(Drop)]
-pub(crate) struct Take<T> {
-    pub(crate) items: Vec<T>,
-    pub(crate) ending: Ending,
+// Finished, or a fault at the place behind the items.
+fn random_ending(random: &mut Random, kind: FaultKind, input: Input, items: usize) -> Ending {
+    if random.coin() {
+        Ok(())
+    } else {
+        Err(Fault {
+            kind,
+            input: input.number(),
+            item: items as u64,
+        })
+    }
 }
 
-// Finished, or a fault at the place behind the items.
-fn random_ending(random: &mut Random, kind: FaultKind, input: u8, items: usize) -> Ending {
-    if random.coin() {
-        Ending::Finished
-    } else {
-        let item = items as u64;
-        Ending::Faulted(Fault { kind, input, item })
+// Items of an input, each as the function makes it, and their ending. The allocator and the numbers are lent side by side: a
+// struct of both would only be taken apart again. A `for`, as `collect` asks more of the function than it knows of itself.
+fn random_whole<T: Copy, F: Fn(&mut Random) -> T + Drop>(
+    heap: Global,
+    random: &mut Random,
+    kind: FaultKind,
+    input: Input,
+    item: F,
+) -> Result<Whole<T, Ending>, AllocError>
+    requires { F.IsAlwaysCallable item }
+{
+    let mut items = Vec::new(heap);
+    for _ in 0..random.below(300) {
+        items.push(item(random))?;
     }
+    let ending = random_ending(random, kind, input, items.len());
+    Ok(Whole { items, ending })
 }
 
 pub(crate) fn random_signal(
     heap: Global,
     random: &mut Random,
-) -> Result<Take<ConverterSample>, AllocError> {
-    let mut items = Vec::new(heap);
-    for _ in 0..random.below(300) {
-        items.push(ConverterSample::new(random.within(-2048, 4096), random.within(-2048, 4096)))?;
-    }
-    let ending = random_ending(random, FaultKind::LowBits, 0, items.len());
-    Ok(Take { items, ending })
+) -> Result<Whole<ConverterSample, Ending>, AllocError> {
+    random_whole(heap, random, FaultKind::LowBits, Input::Signal, |random| {
+        ConverterSample::new(random.within(-2048, 4096), random.within(-2048, 4096))
+    })
 }
 
 pub(crate) fn random_gains(
     heap: Global,
     random: &mut Random,
-) -> Result<Take<GainIndex>, AllocError> {
-    let mut items = Vec::new(heap);
-    for _ in 0..random.below(300) {
-        items.push(GainIndex::new(random.within(0, 128)))?;
+) -> Result<Whole<GainIndex, Ending>, AllocError> {
+    random_whole(heap, random, FaultKind::GainOver, Input::Gain, |random| {
+        GainIndex::new(random.within(0, 128))
+    })
+}
+
+fn random_path(random: &mut Random) -> RawPath {
+    let delay = (random.number() & 63) as u16;
+    RawPath {
+        re: random.word(),
+        im: random.word(),
+        delay,
     }
-    let ending = random_ending(random, FaultKind::GainOver, 1, items.len());
-    Ok(Take { items, ending })
 }
 
 fn random_paths(heap: Global, random: &mut Random) -> Result<Vec<RawPath>, AllocError> {
-    let mut paths = Vec::new(heap);
-    for _ in 0..random.below(10).saturating_add(1) {
-        let delay = (random.number() & 63) as u16;
-        paths.push(RawPath {
-            re: random.word(),
-            im: random.word(),
-            delay,
-        })?;
-    }
-    Ok(paths)
+    (0..random.below(10).saturating_add(1))
+        .map(|_| random_path(random))
+        .collect(heap)
 }
 
 fn set_levels(settings: &mut Settings, random: &mut Random) -> Result<(), SettingRefusal> {
@@ -97,15 +110,16 @@ fn set_offsets(settings: &mut Settings, random: &mut Random) -> Result<(), Setti
     settings.set_seeds(random.below(0xffff_ffff) | 1, random.below(0xffff_ffff) | 1)
 }
 
+fn refused(refusal: SettingRefusal) -> anyhow::Error {
+    anyhow!("a random setting is refused: {refusal}")
+}
+
 // Random settings; what they do not name is fresh.
 pub(crate) fn random_settings(heap: Global, random: &mut Random) -> anyhow::Result<Settings> {
     let mut settings = Settings::fresh();
     let paths = random_paths(heap, random)?;
-    let echoes = settings.set_paths(paths.as_slice());
-    let levels = set_levels(&mut settings, random);
-    let offsets = set_offsets(&mut settings, random);
-    if echoes.is_err() || levels.is_err() || offsets.is_err() {
-        return Err(anyhow!("a random setting is refused"));
-    }
+    settings.set_paths(paths.as_slice()).map_err(refused)?;
+    set_levels(&mut settings, random).map_err(refused)?;
+    set_offsets(&mut settings, random).map_err(refused)?;
     Ok(settings)
 }

@@ -6,41 +6,39 @@
 #![tactic(auto)]
 
 mod inputs;
-mod listed;
 mod piles;
 mod plain;
 mod playing;
 mod random;
 mod trial;
 
-use piles::Shape;
 use random::Random;
-use trial::Tally;
-
-// How many runs are made over each shape of pile.
-const RUNS: u32 = 2000;
-
-const SHAPES: [Shape; 5] = [
-    Shape::Echoes,
-    Shape::Turns,
-    Shape::Noise,
-    Shape::Gains,
-    Shape::Chain,
-];
+use trial::Trials;
 
 fn run(rt: &HostRuntime) -> anyhow::Result<()> {
     playing::compare(rt, "plays.txt")?;
-    let mut random = Random::new(2026);
-    let mut all = Tally::new();
-    for shape in SHAPES {
-        let mut tally = Tally::new();
-        for _ in 0..RUNS {
-            piles::compare(rt.alloc(), shape, &mut random, &mut tally)?;
-        }
-        tally.show(rt, shape.heading())?;
-        all.add(&tally);
-    }
-    all.close(rt)
+    let mut trials = Trials::new(rt, Random::new(2026));
+    trials.over(
+        "echoes",
+        |inputs, trial| trial.compare(inputs.echoes(), inputs.echoes()),
+    )?;
+    trials.over(
+        "turns",
+        |inputs, trial| trial.compare(inputs.turns(), inputs.turns()),
+    )?;
+    trials.over(
+        "noise",
+        |inputs, trial| trial.compare(inputs.noisy(), inputs.noisy()),
+    )?;
+    trials.over(
+        "gains",
+        |inputs, trial| trial.compare(inputs.gained(), inputs.gained()),
+    )?;
+    trials.over(
+        "chain",
+        |inputs, trial| trial.compare(inputs.chain(), inputs.chain()),
+    )?;
+    trials.close()
 }
 
 fn main(rt: HostRuntime) -> anyhow::Result<()> {

@@ -1,29 +1,28 @@
 // Worked runs of a player over gain indices: its answers to a list of calls, as `item 10; 3 [ 11 12 13 ]; no item`. Of a fill,
 // the whole buffer is shown after the count.
-use crate::listed::Listed;
-use anyhow::anyhow;
+use anyhow::{Context, anyhow, bail};
+use comparison::table::{Row, is_entry};
+use comparison::whole::Whole;
 use player::calls::{Answer, Call};
 use player::fault::PlayerFault;
 use player::run::run;
+use recordings::pair::Input;
 use samples::gain_index::GainIndex;
 use source::fault::{Ending, Fault, FaultKind};
-use source::source::Source;
+use source::listed::Listed;
 use std::alloc::Global;
 use std::fmt::Write;
 use std::{fmt, fs};
 use worked::worked_examples;
 
-// The input number of the items that are played.
-const INPUT: u8 = 1;
-
 // What a buffer holds everywhere before it is filled.
 const UNTOUCHED: i64 = 99;
 
-fn call<T: Copy + Clone>(heap: Global, word: &str, untouched: T) -> anyhow::Result<Call<T>> {
+fn call(heap: Global, word: &str) -> anyhow::Result<Call<GainIndex>> {
     match word.split_once(' ') {
         Some(("fill", size)) => {
             let size = size.parse::<usize>()?;
-            Ok(Call::Fill(vec![in heap; untouched; size]?))
+            Ok(Call::Fill(vec![in heap; GainIndex::new(UNTOUCHED); size]?))
         }
         Some(("skip", n)) => Ok(Call::Skip(n.parse::<u32>()?)),
         Some(_) => Err(anyhow!("a call with a number is fill or skip")),
@@ -35,117 +34,107 @@ fn call<T: Copy + Clone>(heap: Global, word: &str, untouched: T) -> anyhow::Resu
     }
 }
 
-fn show_count<N: fmt::Display + Drop>(
-    count: Result<N, PlayerFault>,
-    text: &mut String,
-) -> anyhow::Result<()> {
-    match count {
-        Ok(n) => Ok(write!(text, "{n}")?),
-        Err(fault) => Ok(write!(text, "{fault}")?),
+// How many items a call moved on by, or its fault.
+#[derive(Clone, Copy)]
+struct Count<N>(Result<N, PlayerFault>);
+
+impl<N: fmt::Display> fmt::Display for Count<N> {
+    fn fmt<W: fmt::Write>(&self, f: &mut fmt::Formatter<W>) -> fmt::Result {
+        match &self.0 {
+            Ok(n) => write!(f, "{n}"),
+            Err(fault) => write!(f, "{fault}"),
+        }
     }
 }
 
-fn show_item(item: GainIndex, text: &mut String) -> anyhow::Result<()> {
-    let index = item.index;
-    Ok(write!(text, " {index}")?)
-}
-
+// Added to the text, as an answer is built of several.
 fn show_answer(answer: Answer<GainIndex>, text: &mut String) -> anyhow::Result<()> {
     match answer {
         Answer::Item(Ok(Some(item))) => {
-            text.push_str("item")?;
-            show_item(item, text)
+            let index = item.index;
+            Ok(write!(text, "item {index}")?)
         }
         Answer::Item(Ok(None)) => Ok(text.push_str("no item")?),
         Answer::Item(Err(fault)) => Ok(write!(text, "{fault}")?),
         Answer::Filled(count, buffer) => {
-            show_count(count, text)?;
-            text.push_str(" [")?;
+            let count = Count(count);
+            write!(text, "{count} [")?;
             for item in buffer.iter() {
-                show_item(*item, text)?;
+                let index = item.index;
+                write!(text, " {index}")?;
             }
             Ok(text.push_str(" ]")?)
         }
-        Answer::Skipped(count) => show_count(count, text),
+        Answer::Skipped(count) => {
+            let count = Count(count);
+            Ok(write!(text, "{count}")?)
+        }
         Answer::Rewound => Ok(text.push_str("rewound")?),
     }
 }
 
-fn show_answers(answers: Vec<Answer<GainIndex>>, text: &mut String) -> anyhow::Result<()> {
+fn show_answers(heap: Global, answers: Vec<Answer<GainIndex>>) -> anyhow::Result<String> {
+    let mut text = String::new(heap);
     for answer in answers {
         if !text.is_empty() {
             text.push_str("; ")?;
         }
-        show_answer(answer, text)?;
+        show_answer(answer, &mut text)?;
     }
-    Ok(())
+    Ok(text)
 }
 
-// The items that the words name, up to the word that stands for a fault.
-fn items(heap: Global, words: &str) -> anyhow::Result<(Vec<GainIndex>, Ending)> {
-    let mut items = Vec::new(heap);
-    for word in words.split(' ') {
-        if word == "fault" {
-            let kind = FaultKind::GainOver;
-            let item = items.len() as u64;
-            return Ok((
-                items,
-                Ending::Faulted(Fault {
-                    kind,
-                    input: INPUT,
-                    item,
-                }),
-            ));
-        }
-        items.push(GainIndex::new(word.parse::<i64>()?))?;
-    }
-    Ok((items, Ending::Finished))
+// The items that the words name; the word `fault` behind them stands for one.
+fn whole(heap: Global, words: &str) -> anyhow::Result<Whole<GainIndex, Ending>> {
+    let faulted = words.strip_suffix("fault");
+    let items = faulted
+        .unwrap_or(words)
+        .split_whitespace()
+        .map(|word| -> anyhow::Result<GainIndex> { Ok(GainIndex::new(word.parse::<i64>()?)) })
+        .try_collect::<Vec<GainIndex>>(heap)?;
+    let ending = match faulted {
+        Some(_) => Err(Fault {
+            kind: FaultKind::GainOver,
+            input: Input::Gain.number(),
+            item: items.len() as u64,
+        }),
+        None => Ok(()),
+    };
+    Ok(Whole { items, ending })
 }
 
 // What the calls, which are parted by commas, answer over the items that the words name.
 fn answer(heap: Global, calls: &str, words: &str) -> anyhow::Result<String> {
-    let (items, ending) = items(heap, words)?;
-    let mut list = Vec::new(heap);
-    for word in calls.split(',') {
-        list.push(call(heap, word.trim(), GainIndex::new(UNTOUCHED))?)?;
-    }
-    let mut text = String::new(heap);
-    let listed = Listed::new(items.as_slice(), ending);
-    show_answers(run(heap, listed, list)?, &mut text)?;
-    Ok(text)
+    let whole = whole(heap, words)?;
+    let listed = Listed::new(whole.items.as_slice(), whole.ending);
+    let calls = calls
+        .split(',')
+        .map(|word| call(heap, word.trim()))
+        .try_collect::<Vec<Call<GainIndex>>>(heap)?;
+    show_answers(heap, run(heap, listed, calls)?)
 }
 
 // Compares the run on a line, and prints it; an error where an answer differs.
 fn compare_line(rt: &HostRuntime, line: &str) -> anyhow::Result<()> {
-    let mut columns = line.split('|');
-    let (Some(name), Some(calls), Some(words), Some(expected)) = (
-        columns.next(),
-        columns.next(),
-        columns.next(),
-        columns.next(),
-    ) else {
-        return Err(anyhow!("a line of a table has four columns"));
-    };
-    let name = name.trim();
-    let found = answer(rt.alloc(), calls, words.trim())?;
-    if found.as_str() != expected.trim() {
+    let row = Row::of(line).context("a line of a table has four columns")?;
+    let name = row.name;
+    let found = answer(rt.alloc(), row.what, row.of_what)?;
+    if found.as_str() != row.answer {
         println!(rt; "{name}: got {found}")?;
-        return Err(anyhow!("a worked run has another answer than it should"));
+        bail!("a worked run has another answer than it should");
     }
     println!(rt; "{name}: ok")?;
     Ok(())
 }
 
 // The examples that are proved, of which the first is shown as the stage computes it; then every run of the table in the
-// file. An empty line and one that begins with # is none.
+// file.
 pub(crate) fn compare(rt: &HostRuntime, file: &str) -> anyhow::Result<()> {
     let scaled = worked_examples().re;
     println!(rt; "worked examples: proved; 100 scaled by 4096 gives {scaled}")?;
     let text = fs::read_to_string(rt, file)?;
-    for line in text.lines() {
-        if !line.is_empty() && !line.starts_with('#') {
-            compare_line(rt, line)?;
-        }
+    for line in text.lines().filter(|line| is_entry(line)) {
+        compare_line(rt, line)?;
     }
     Ok(())
 }

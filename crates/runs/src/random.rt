@@ -18,10 +18,10 @@ impl Random {
         self.state
     }
 
-    // A number below the limit.
+    // A number below the limit, or 0.
     pub(crate) fn below(&mut self, limit: u32) -> u32 {
         let number = (self.number() >> 32) as u32;
-        if limit == 0 { 0 } else { number % limit }
+        number.checked_rem(limit).unwrap_or(0)
     }
 
     // A number from low on, so many in all.

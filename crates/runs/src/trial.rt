@@ -1,33 +1,65 @@
-// One run: random calls, carried out by a player and by the plain player.
+// Runs: random calls, carried out by a player and by the plain player.
+use crate::piles::Inputs;
 use crate::plain::Plain;
 use crate::random::Random;
-use anyhow::anyhow;
+use anyhow::ensure;
+use comparison::tally::Tally;
+use comparison::whole::Whole;
 use player::calls::{Answer, Call};
 use player::run::run;
 use samples::sample::Sample;
 use source::source::Source;
 use std::alloc::{AllocError, Global};
+use std::fmt;
+
+// How many runs are made over each shape of pile.
+const RUNS: u32 = 2000;
 
 // How many calls a run has.
 const CALLS: u32 = 40;
 
 // How many runs and calls were compared, how many of the answers are faults, and how many runs were wrong.
-#[derive(Drop)]
-pub(crate) struct Tally {
-    runs: u32,
+#[derive(Clone, Copy)]
+pub(crate) struct Counts {
+    pub(crate) runs: Tally,
     calls: u64,
     faults: u64,
-    wrong: u32,
+}
+
+impl Counts {
+    fn new() -> Counts {
+        Counts {
+            runs: Tally::new(),
+            calls: 0,
+            faults: 0,
+        }
+    }
+
+    fn add(&mut self, other: Counts) {
+        self.runs.add(other.runs);
+        self.calls = self.calls.saturating_add(other.calls);
+        self.faults = self.faults.saturating_add(other.faults);
+    }
+}
+
+impl fmt::Display for Counts {
+    fn fmt<W: fmt::Write>(&self, f: &mut fmt::Formatter<W>) -> fmt::Result {
+        let runs = self.runs.cases;
+        let calls = self.calls;
+        let faults = self.faults;
+        let wrong = self.runs.wrong;
+        write!(
+            f,
+            "{runs} runs, {calls} calls, {faults} of them faults, {wrong} wrong"
+        )
+    }
 }
 
 // A buffer with random content, so that one sees which places stay.
 fn random_buffer<T: Sample>(heap: Global, random: &mut Random) -> Result<Vec<T>, AllocError> {
-    let mut buffer = Vec::new(heap);
-    for _ in 0..random.below(24) {
-        let item = T::new(i64::from(random.word()), i64::from(random.word()));
-        buffer.push(item)?;
-    }
-    Ok(buffer)
+    (0..random.below(24))
+        .map(|_| T::new(i64::from(random.word()), i64::from(random.word())))
+        .collect(heap)
 }
 
 fn random_call<T: Sample>(heap: Global, random: &mut Random) -> Result<Call<T>, AllocError> {
@@ -42,97 +74,104 @@ fn random_call<T: Sample>(heap: Global, random: &mut Random) -> Result<Call<T>, 
 
 // The same calls for the same random numbers.
 fn random_calls<T: Sample>(heap: Global, mut random: Random) -> Result<Vec<Call<T>>, AllocError> {
-    let mut calls = Vec::new(heap);
-    for _ in 0..CALLS {
-        calls.push(random_call(heap, &mut random)?)?;
-    }
-    Ok(calls)
-}
-
-fn alike<T: PartialEq>(one: &Answer<T>, other: &Answer<T>) -> bool {
-    match (one, other) {
-        (Answer::Item(x), Answer::Item(y)) => *x == *y,
-        (Answer::Filled(m, x), Answer::Filled(n, y)) => *m == *n && x.as_slice() == y.as_slice(),
-        (Answer::Skipped(m), Answer::Skipped(n)) => *m == *n,
-        (Answer::Rewound, Answer::Rewound) => true,
-        _ => false,
-    }
+    (0..CALLS)
+        .map(|_| random_call(heap, &mut random))
+        .try_collect(heap)
 }
 
 fn is_fault<T>(answer: &Answer<T>) -> bool {
-    match answer {
-        Answer::Item(answer) => answer.is_err(),
-        Answer::Filled(answer, _) => answer.is_err(),
-        Answer::Skipped(answer) => answer.is_err(),
-        Answer::Rewound => false,
-    }
+    matches!(
+        answer,
+        Answer::Item(Err(_)) | Answer::Filled(Err(_), _) | Answer::Skipped(Err(_))
+    )
 }
 
-impl Tally {
-    pub(crate) fn new() -> Tally {
-        Tally {
-            runs: 0,
-            calls: 0,
-            faults: 0,
-            wrong: 0,
-        }
-    }
+// A trial of players over piles of one shape.
+#[derive(Drop)]
+pub(crate) struct Trial {
+    heap: Global,
+    random: Random,
+    counts: Counts,
+}
 
+impl Trial {
     // Compares a run over the pile with the plain player's over another that was made the same way.
     pub(crate) fn compare<S: Source + Drop>(
         &mut self,
-        heap: Global,
-        random: &mut Random,
         pile: S,
         mut same: S,
     ) -> Result<(), AllocError>
     where
         S::Item: Sample + PartialEq,
     {
-        random.number();
-        let mut plain = Plain::over(heap, &mut same)?;
-        let answers = run(heap, pile, random_calls(heap, *random)?)?;
-        let mut right = 0usize;
-        for (call, answer) in random_calls(heap, *random)?.into_iter().zip(answers.iter()) {
-            if alike(&plain.answer(call), answer) {
-                right = right.saturating_add(1);
-            }
+        self.random.number();
+        let mut plain = Plain::new(Whole::of(self.heap, &mut same)?);
+        let answers = run(self.heap, pile, random_calls(self.heap, self.random)?)?;
+        let calls = random_calls(self.heap, self.random)?;
+        let mut right = answers.len() == calls.len();
+        for (call, answer) in calls.into_iter().zip(answers.iter()) {
+            right = plain.answer(call) == *answer && right;
             if is_fault(answer) {
-                self.faults = self.faults.saturating_add(1);
+                self.counts.faults = self.counts.faults.saturating_add(1);
             }
         }
-        self.runs = self.runs.saturating_add(1);
-        self.calls = self.calls.saturating_add(u64::from(CALLS));
-        if right != CALLS as usize {
-            self.wrong = self.wrong.saturating_add(1);
+        self.counts.runs.count(right);
+        self.counts.calls = self.counts.calls.saturating_add(u64::from(CALLS));
+        Ok(())
+    }
+}
+
+// The trials of all shapes, one after the other.
+#[derive(Drop)]
+pub(crate) struct Trials<'r> {
+    rt: &'r HostRuntime,
+    random: Random,
+    all: Counts,
+}
+
+impl<'r> Trials<'r> {
+    pub(crate) fn new(rt: &'r HostRuntime, random: Random) -> Self {
+        Trials {
+            rt,
+            random,
+            all: Counts::new(),
         }
+    }
+
+    // Makes inputs over and over, and lets them be compared; prints how many runs of the shape that was.
+    pub(crate) fn over<F: Fn(&Inputs, &mut Trial) -> Result<(), AllocError> + Drop>(
+        &mut self,
+        shape: &str,
+        compare: F,
+    ) -> anyhow::Result<()>
+        requires { F.IsAlwaysCallable compare }
+    {
+        let heap = self.rt.alloc();
+        let mut trial = Trial {
+            heap,
+            random: self.random,
+            counts: Counts::new(),
+        };
+        for _ in 0..RUNS {
+            let inputs = Inputs::random(heap, &mut trial.random)?;
+            compare(&inputs, &mut trial)?;
+        }
+        let counts = trial.counts;
+        println!(self.rt; "{shape}: {counts}")?;
+        self.random = trial.random;
+        self.all.add(counts);
         Ok(())
     }
 
-    // Counts the runs of another tally in.
-    pub(crate) fn add(&mut self, other: &Tally) {
-        self.runs = self.runs.saturating_add(other.runs);
-        self.calls = self.calls.saturating_add(other.calls);
-        self.faults = self.faults.saturating_add(other.faults);
-        self.wrong = self.wrong.saturating_add(other.wrong);
-    }
-
-    pub(crate) fn show(&self, rt: &HostRuntime, before: &str) -> anyhow::Result<()> {
-        let runs = self.runs;
-        let calls = self.calls;
-        let faults = self.faults;
-        let wrong = self.wrong;
-        println!(rt; "{before}{runs} runs, {calls} calls, {faults} of them faults, {wrong} wrong")?;
+    // The counts of all runs; an error where one is wrong.
+    // Each program counts something else, and says it in its own words.
+    pub(crate) fn close(self) -> anyhow::Result<()> {
+        let Trials { rt, random: _, all } = self;
+        println!(rt; "{all}")?;
+        ensure!(
+            all.runs.wrong == 0,
+            "a player answers otherwise than the plain player"
+        );
         Ok(())
-    }
-
-    // The count of all runs; an error where one is wrong.
-    pub(crate) fn close(&self, rt: &HostRuntime) -> anyhow::Result<()> {
-        self.show(rt, "")?;
-        if self.wrong == 0 {
-            Ok(())
-        } else {
-            Err(anyhow!("a player answers otherwise than the plain player"))
-        }
     }
 }

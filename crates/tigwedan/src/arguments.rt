@@ -1,20 +1,30 @@
 // The program's arguments.
 use crate::failure::Failure;
+use recordings::pair::Input;
 use std::{env, fmt, io};
 
-// What a file is opened as.
+// What a file is opened as, in the words of the command.
 #[derive(Clone, Copy)]
-pub enum Kind {
-    Signal,
-    Gain,
+pub struct Kind(pub Input);
+
+impl<'a> TryFrom<&'a str> for Kind {
+    type Error = Failure<'a>;
+
+    fn try_from(word: &'a str) -> Result<Kind, Failure<'a>> {
+        match word {
+            "signal" => Ok(Kind(Input::Signal)),
+            "gain" => Ok(Kind(Input::Gain)),
+            _ => Err(Failure::UnknownKind(word)),
+        }
+    }
 }
 
 impl fmt::Display for Kind {
     fn fmt<W: fmt::Write>(&self, f: &mut fmt::Formatter<W>) -> fmt::Result {
-        match *self {
-            Kind::Signal => write!(f, "signal"),
-            Kind::Gain => write!(f, "gain"),
-        }
+        f.write_str(match self.0 {
+            Input::Signal => "signal",
+            Input::Gain => "gain",
+        })
     }
 }
 
@@ -24,6 +34,16 @@ pub struct Inputs<'a> {
     pub signal: &'a str,
     pub gain: &'a str,
     pub settings: Option<&'a str>,
+}
+
+impl<'a> Inputs<'a> {
+    fn of(signal: &'a str, gain: &'a str, settings: &'a [String]) -> Inputs<'a> {
+        Inputs {
+            signal,
+            gain,
+            settings: settings.first().map(|file| file.as_str()),
+        }
+    }
 }
 
 // What is done with a chain.
@@ -49,49 +69,27 @@ pub enum Command<'a> {
 
 // The words behind the program's own name.
 pub(crate) fn words(rt: &HostRuntime) -> io::Result<Vec<String>> {
-    let mut words = Vec::new(rt.alloc());
-    for word in env::args(rt)?.skip(1) {
-        words.push(word)?;
-    }
-    Ok(words)
+    Ok(env::args(rt)?.skip(1).collect(rt.alloc())?)
 }
 
-fn kind_of(word: &str) -> Result<Kind, Failure<'_>> {
-    match word {
-        "signal" => Ok(Kind::Signal),
-        "gain" => Ok(Kind::Gain),
-        _ => Err(Failure::UnknownKind(word)),
-    }
-}
-
+// How often a chain is timed, at least once.
 fn runs_of(word: &str) -> Result<u32, Failure<'_>> {
-    match word.parse::<u32>() {
-        Ok(runs) if runs > 0 => Ok(runs),
-        _ => Err(Failure::WrongRuns(word)),
-    }
+    word.parse::<u32>()
+        .ok()
+        .filter(|runs| *runs > 0)
+        .ok_or(Failure::WrongRuns(word))
 }
 
-fn inputs_of<'a>(signal: &'a String, gain: &'a String, settings: &'a [String]) -> Inputs<'a> {
-    Inputs {
-        signal: signal.as_str(),
-        gain: gain.as_str(),
-        settings: match settings.first() {
-            Some(file) => Some(file.as_str()),
-            None => None,
-        },
-    }
-}
-
-// The form of a command, for arguments that are too few or too many.
-fn form_of(command: &str) -> Option<&'static str> {
+// Why there is no such command: its form is another, or it is unknown.
+fn wrong(command: &str) -> Failure<'_> {
     match command {
-        "help" => Some("help"),
-        "check" => Some("check signal|gain FILE"),
-        "copy" => Some("copy IN OUT"),
-        "play" => Some("play SIGNAL GAIN OUT [SETTINGS]"),
-        "replay" => Some("replay SIGNAL GAIN CALLS [SETTINGS]"),
-        "bench" => Some("bench SIGNAL GAIN RUNS [SETTINGS]"),
-        _ => None,
+        "help" => Failure::WrongCount("help"),
+        "check" => Failure::WrongCount("check signal|gain FILE"),
+        "copy" => Failure::WrongCount("copy IN OUT"),
+        "play" => Failure::WrongCount("play SIGNAL GAIN OUT [SETTINGS]"),
+        "replay" => Failure::WrongCount("replay SIGNAL GAIN CALLS [SETTINGS]"),
+        "bench" => Failure::WrongCount("bench SIGNAL GAIN RUNS [SETTINGS]"),
+        _ => Failure::UnknownCommand(command),
     }
 }
 
@@ -101,23 +99,22 @@ pub(crate) fn parse(words: &[String]) -> Result<Command<'_>, Failure<'_>> {
     };
     match (command.as_str(), words) {
         ("help", [_]) => Ok(Command::Help),
-        ("check", [_, kind, file]) => Ok(Command::Check(kind_of(kind.as_str())?, file.as_str())),
-        ("copy", [_, from, to]) => Ok(Command::Copy(from.as_str(), to.as_str())),
-        ("play", [_, signal, gain, out, rest @ ..]) if rest.len() < 2 => Ok(Command::Chain(
-            inputs_of(signal, gain, rest),
-            Task::Play(out.as_str()),
-        )),
-        ("replay", [_, signal, gain, calls, rest @ ..]) if rest.len() < 2 => Ok(Command::Chain(
-            inputs_of(signal, gain, rest),
-            Task::Replay(calls.as_str()),
-        )),
-        ("bench", [_, signal, gain, runs, rest @ ..]) if rest.len() < 2 => {
-            let task = Task::Bench(runs_of(runs.as_str())?);
-            Ok(Command::Chain(inputs_of(signal, gain, rest), task))
+        ("check", [_, kind, file]) => {
+            Ok(Command::Check(Kind::try_from(kind.as_str())?, file.as_str()))
         }
-        (word, _) => match form_of(word) {
-            Some(form) => Err(Failure::WrongCount(form)),
-            None => Err(Failure::UnknownCommand(word)),
-        },
+        ("copy", [_, from, to]) => Ok(Command::Copy(from.as_str(), to.as_str())),
+        ("play", [_, signal, gain, out, settings @ ..]) if settings.len() < 2 => {
+            let task = Task::Play(out.as_str());
+            Ok(Command::Chain(Inputs::of(signal.as_str(), gain.as_str(), settings), task))
+        }
+        ("replay", [_, signal, gain, calls, settings @ ..]) if settings.len() < 2 => {
+            let task = Task::Replay(calls.as_str());
+            Ok(Command::Chain(Inputs::of(signal.as_str(), gain.as_str(), settings), task))
+        }
+        ("bench", [_, signal, gain, runs, settings @ ..]) if settings.len() < 2 => {
+            let task = Task::Bench(runs_of(runs.as_str())?);
+            Ok(Command::Chain(Inputs::of(signal.as_str(), gain.as_str(), settings), task))
+        }
+        (word, _) => Err(wrong(word)),
     }
 }

@@ -1,12 +1,14 @@
 // The command `check`: opens a file as a recording and tells what it holds.
 use crate::arguments::Kind;
 use crate::failure::Failure;
-use crate::report::Ends;
+use crate::inputs::bytes_of;
+use crate::report::{Ends, Refused};
+use comparison::ending::AtItem;
 use recordings::layout::{Gains, Layout, Signal};
+use recordings::pair::Input;
 use recordings::recording::Recording;
 use source::fault::Ending;
 use source::source::Source;
-use std::fs;
 use wave::refusal::OpeningRefusal;
 
 // What a recording holds.
@@ -17,22 +19,13 @@ struct Contents {
     ending: Ending,
 }
 
-// How many items the source hands out, and how it ends.
-fn count<S: Source>(source: &mut S) -> (u64, Ending) {
-    for items in 0..u64::MAX {
-        match source.next() {
-            Ok(Some(_)) => {}
-            Ok(None) => return (items, Ending::Finished),
-            Err(fault) => return (items, Ending::Faulted(fault)),
-        }
-    }
-    (u64::MAX, Ending::Finished)
-}
-
-fn examine<'a, L: Layout>(bytes: &'a [u8]) -> Result<Contents, OpeningRefusal> {
-    let mut recording: Recording<'a, L> = Recording::open(bytes, 0)?;
+fn examine<'a, L: Layout>(input: Input, bytes: &'a [u8]) -> Result<Contents, OpeningRefusal> {
+    let mut recording: Recording<'a, L> = Recording::open(bytes, input.number())?;
     let rate = recording.rate();
-    let (items, ending) = count(&mut recording);
+    let items = recording
+        .items()
+        .fold(0, |items: u64, _| items.saturating_add(1));
+    let ending = recording.ending();
     Ok(Contents {
         rate,
         items,
@@ -41,22 +34,18 @@ fn examine<'a, L: Layout>(bytes: &'a [u8]) -> Result<Contents, OpeningRefusal> {
 }
 
 pub(crate) fn check<'a>(rt: &HostRuntime, kind: Kind, file: &'a str) -> Result<(), Failure<'a>> {
-    let bytes = match fs::read(rt, file) {
-        Ok(bytes) => bytes,
-        Err(error) => return Err(Failure::Reading(file, error)),
-    };
-    let examined = match kind {
-        Kind::Signal => examine::<Signal>(bytes.as_slice()),
-        Kind::Gain => examine::<Gains>(bytes.as_slice()),
-    };
-    match examined {
-        Ok(contents) => {
-            let rate = contents.rate;
-            let items = contents.items;
-            let ends = Ends(contents.ending);
-            println!(rt; "{file}: {kind} recording, rate {rate}, {items} samples, {ends}")?;
-            Ok(())
-        }
-        Err(refusal) => Err(Failure::Refused(file, refusal)),
+    let bytes = bytes_of(rt, file)?;
+    // A word becomes a type here.
+    let Contents {
+        rate,
+        items,
+        ending,
+    } = match kind.0 {
+        Input::Signal => examine::<Signal>(kind.0, bytes.as_slice()),
+        Input::Gain => examine::<Gains>(kind.0, bytes.as_slice()),
     }
+    .map_err(|refusal| Failure::Refused(file, Refused(refusal)))?;
+    let ends = Ends(ending.map_err(AtItem));
+    println!(rt; "{file}: {kind} recording, rate {rate}, {items} samples, {ends}")?;
+    Ok(())
 }

@@ -1,91 +1,63 @@
 // The commands that play the standard chain.
 use crate::arguments::{Inputs, Task};
-use crate::failure::{Failure, OutputFailure};
-use crate::inputs::Recordings;
-use crate::{bench, blocks, inputs, play, replay};
-use lines::reader::Numbered;
+use crate::failure::Failure;
+use crate::inputs::{bytes_of, steps_of};
+use crate::parts::Parts;
+use crate::playing::ChainEnding;
+use crate::{bench, blocks, play, replay};
+use comparison::ending::AtItem;
 use link::settings::Settings;
-use source::fault::{Ending, Fault};
-use transcript::step::Step;
+use recordings::pair::LinkRecordings;
+use samples::converter::ConverterSample;
+use samples::gain_index::GainIndex;
+use source::source::Source;
+use standard::standard_player;
 
-// What came of something that was done with a chain.
-#[derive(Clone, Copy)]
-pub enum Outcome {
-    Done,
-    // The chain ended in a fault.
-    Faulted(Fault),
-    // Other samples came out in blocks of another size.
-    BlocksDiffer,
-    // Other samples came out at this run, counted from 0, than at the first.
-    RunsDiffer(u32),
-}
-
-impl Outcome {
-    // What came of playing up to the ending.
-    pub(crate) fn of(ending: Ending) -> Outcome {
-        match ending {
-            Ending::Finished => Outcome::Done,
-            Ending::Faulted(fault) => Outcome::Faulted(fault),
-        }
-    }
-}
-
-fn perform_on(
-    rt: &HostRuntime,
+// Makes the player, and answers how what it played ended. Generic in both sources, so that the player's type holds no lifetime
+// of a recording: the check does not follow several in one type.
+fn play_chain<'a, S: Source<Item = ConverterSample> + Drop, G: Source<Item = GainIndex> + Drop>(
+    rt: &'a HostRuntime,
+    task: Task<'a>,
+    rate: u32,
     settings: &Settings,
-    recordings: Recordings<'_>,
-    task: Task<'_>,
-    steps: &[Numbered<Step>],
-) -> Result<Outcome, OutputFailure> {
-    let Recordings { signal, gain } = recordings;
-    let rate = signal.rate();
+    signal: S,
+    gain: G,
+) -> Result<ChainEnding, Failure<'a>> {
+    let mut player = standard_player(settings, signal, gain);
+    // A word becomes a type here.
     match task {
-        Task::Play(to) => play::play(rt, settings, signal, gain, rate, to),
-        Task::Replay(_) => replay::replay(rt, settings, signal, gain, steps),
-        Task::Bench(runs) => bench::bench(rt, settings, signal, gain, runs),
-    }
-}
-
-// A fault that was met is a failure, and names its file.
-fn failure_of<'a>(inputs: Inputs<'a>, outcome: Outcome) -> Result<(), Failure<'a>> {
-    match outcome {
-        Outcome::Done => Ok(()),
-        Outcome::Faulted(fault) => {
-            Err(Failure::Faulted(inputs::file_of(inputs, fault.input), fault))
+        Task::Play(to) => play::play(rt, &mut player, Parts::new(rt, to, rate)),
+        Task::Replay(_) => {
+            blocks::compare(rt, &mut player)?;
+            Ok(Ok(()))
         }
-        Outcome::BlocksDiffer => Err(Failure::BlocksDiffer),
-        Outcome::RunsDiffer(run) => Err(Failure::RunsDiffer(run)),
+        Task::Bench(runs) => bench::bench(rt, &mut player, runs),
     }
 }
 
 // All files are read, and all settings accepted, before anything is done. The calls of a file are made first, then
-// the chain is compared with itself.
+// the chain is compared with itself. A fault that the chain ends with is a failure, and names its file.
 pub(crate) fn perform<'a>(
-    rt: &HostRuntime,
+    rt: &'a HostRuntime,
     inputs: Inputs<'a>,
     task: Task<'a>,
 ) -> Result<(), Failure<'a>> {
-    let mut settings = Settings::fresh();
-    inputs::set(rt, inputs.settings, &mut settings)?;
-    let signal = inputs::bytes_of(rt, inputs.signal)?;
-    let gain = inputs::bytes_of(rt, inputs.gain)?;
-    let mut steps = Vec::new(rt.alloc());
+    let settings = inputs.settings(rt)?;
+    let signal_bytes = bytes_of(rt, inputs.signal)?;
+    let gain_bytes = bytes_of(rt, inputs.gain)?;
+    // The calls have a player of their own, which uses its recordings up.
     if let Task::Replay(file) = task {
-        inputs::calls(rt, file, &mut steps)?;
+        let steps = steps_of(rt, file)?;
+        let recordings = inputs.open(signal_bytes.as_slice(), gain_bytes.as_slice())?;
+        replay::replay(rt, &settings, recordings, steps.as_slice())?;
     }
-    let steps = steps.as_slice();
-    match inputs::open(inputs, signal.as_slice(), gain.as_slice()) {
-        Ok(recordings) => failure_of(inputs, perform_on(rt, &settings, recordings, task, steps)?)?,
-        Err(failure) => return Err(failure),
-    }
-    if let Task::Replay(_) = task {
-        match inputs::open(inputs, signal.as_slice(), gain.as_slice()) {
-            Ok(recordings) => {
-                let Recordings { signal, gain } = recordings;
-                failure_of(inputs, blocks::compare(rt, &settings, signal, gain)?)?;
-            }
-            Err(failure) => return Err(failure),
-        }
-    }
-    Ok(())
+    let LinkRecordings { signal, gain } = inputs.open(
+        signal_bytes.as_slice(),
+        gain_bytes.as_slice(),
+    )?;
+    let rate = signal.rate();
+    play_chain(rt, task, rate, &settings, signal, gain)?.map_err(|met| Failure::Faulted(
+        inputs.file_of(met.fault.input),
+        AtItem(met.fault),
+    ))
 }

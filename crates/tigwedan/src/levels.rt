@@ -7,7 +7,7 @@ const LOWEST: i16 = -2048;
 const HIGHEST: i16 = 2047;
 
 // What was seen of the samples: the greatest size of a part, and how many samples have a part at an end of the range.
-#[derive(Clone, Copy)]
+#[derive(Clone, Copy, Default)]
 pub struct Levels {
     pub highest: u16,
     pub clipped: u64,
@@ -18,13 +18,6 @@ fn at_an_end(part: i16) -> bool {
 }
 
 impl Levels {
-    pub(crate) fn none() -> Self {
-        Levels {
-            highest: 0,
-            clipped: 0,
-        }
-    }
-
     pub(crate) fn note(&mut self, samples: &[ConverterSample]) {
         for sample in samples {
             let level = sample.re.unsigned_abs().max(sample.im.unsigned_abs());

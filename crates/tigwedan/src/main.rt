@@ -16,6 +16,7 @@ mod inputs;
 mod levels;
 mod parts;
 mod play;
+mod playing;
 mod replay;
 mod report;
 
@@ -23,9 +24,9 @@ use arguments::Command;
 use failure::Failure;
 use std::process::ExitCode;
 
-fn run<'a>(rt: &HostRuntime, words: &'a [String]) -> Result<(), Failure<'a>> {
+fn run<'a>(rt: &'a HostRuntime, words: &'a [String]) -> Result<(), Failure<'a>> {
     match arguments::parse(words)? {
-        Command::Demonstrate => Ok(demonstration::demonstrate(rt)?),
+        Command::Demonstrate => demonstration::demonstrate(rt),
         Command::Help => Ok(demonstration::help(rt)?),
         Command::Check(kind, file) => check::check(rt, kind, file),
         Command::Copy(from, to) => copy::copy(rt, from, to),

@@ -1,35 +1,31 @@
 // What the program prints about recordings.
-use player::fault::PlayerFault;
-use source::fault::Ending;
 use std::fmt;
+use wave::refusal::OpeningRefusal;
 
-// How a recording ends, in the words of a summary.
+// How something ends, in the words of a summary: finished, or by what ended it.
+// A summary says `then` before a fault, and a refusal its words.
 #[derive(Clone, Copy)]
-pub struct Ends(pub Ending);
+pub struct Ends<F>(pub Result<(), F>);
 
-impl fmt::Display for Ends {
+impl<F: fmt::Display> fmt::Display for Ends<F> {
     fn fmt<W: fmt::Write>(&self, f: &mut fmt::Formatter<W>) -> fmt::Result {
-        match self.0 {
-            Ending::Finished => write!(f, "finished"),
-            Ending::Faulted(fault) => {
-                let number = fault.kind.number();
-                let item = fault.item;
-                write!(f, "then fault {number} at item {item}")
-            }
+        match &self.0 {
+            Ok(()) => write!(f, "finished"),
+            Err(fault) => write!(f, "then {fault}"),
         }
     }
 }
 
-// How a player's chain ends: finished, or with this fault.
-#[derive(Clone, Copy)]
-pub struct EndsAt(pub Option<PlayerFault>);
+// Why a recording does not open, with its words.
+#[derive(Clone, Copy, Debug)]
+pub struct Refused(pub OpeningRefusal);
 
-impl fmt::Display for EndsAt {
+impl fmt::Display for Refused {
     fn fmt<W: fmt::Write>(&self, f: &mut fmt::Formatter<W>) -> fmt::Result {
-        match self.0 {
-            None => write!(f, "finished"),
-            Some(fault) => write!(f, "then {fault}"),
-        }
+        let number = self.0.number();
+        let place = self.0.place();
+        let refusal = self.0;
+        write!(f, "refused {number} at byte {place}: {refusal}")
     }
 }
 

@@ -1,0 +1,4 @@
+pub mod Differences
+pub mod Endings
+pub mod Tables
+pub mod Tallies
