@@ -1,17 +1,39 @@
 // Without arguments: the usage, and a small demonstration that needs no file.
 use crate::failure::Failure;
-use crate::report::{CHAIN_USAGE, Ends, Refused, USAGE};
+use crate::replay;
+use crate::report::{Ends, Refused, USAGE};
 use comparison::ending::AtItem;
+use lines::entries::read_all;
+use lines::numbered::Numbered;
 use recorder::session::write;
 use recordings::layout::Signal;
 use recordings::pair::Input;
 use recordings::recording::Recording;
 use samples::converter::ConverterSample;
+use samples::gain_index::GainIndex;
 use samples::sample::Sample;
+use settings_file::reader;
 use source::source::Source;
+use stages::held::Held;
 use std::io;
+use transcript::step::Step;
 
 const RATE: u32 = 8000;
+
+// A link with an echo half as strong and one sample late, and a noise of a few units at the converter.
+const SETTINGS: &str = "scale 4096
+paths 8192 0 0 4096 0 1
+gain 7 128
+receive_gain 0 -5 128
+";
+
+const CALLS: &str = "fill 2
+skip 1
+next
+next
+rewind
+fill 6
+";
 
 // Prints the samples that the source hands out, and how it ends.
 fn show_samples<S: Source<Item = ConverterSample>>(
@@ -44,22 +66,46 @@ fn show(rt: &HostRuntime, bytes: &[u8]) -> io::Result<()> {
     }
 }
 
+// Makes the calls on the link over the signal, with one gain index that stays, and prints each answer.
+fn show_link<'a, S: Source<Item = ConverterSample> + Drop>(
+    rt: &HostRuntime,
+    signal: S,
+) -> Result<(), Failure<'a>> {
+    println!(rt;
+        "played through a link with these settings:\n{SETTINGS}the calls and their answers:"
+    )?;
+    let settings = reader::read(rt.alloc(), SETTINGS.as_bytes()).map_err(|fault| Failure::Settings(
+        "demonstration",
+        fault,
+    ))?;
+    let steps: Vec<Numbered<Step>> = read_all(rt.alloc(), CALLS.as_bytes()).map_err(
+        |wrong| Failure::Calls("demonstration", wrong),
+    )?;
+    let indices = Held::new(GainIndex::new(0), u32::MAX);
+    replay::replay(rt, &settings, signal, indices, steps.as_slice())
+}
+
 // The usage of every command.
 pub(crate) fn help(rt: &HostRuntime) -> io::Result<()> {
-    println!(rt; "{USAGE}")?;
-    println!(rt; "{CHAIN_USAGE}")
+    println!(rt; "{USAGE}")
 }
 
 pub(crate) fn demonstrate<'a>(rt: &HostRuntime) -> Result<(), Failure<'a>> {
-    println!(rt; "{USAGE}")?;
+    help(rt)?;
     println!(rt;
-        "\ndemonstration: a recording of three samples, written to memory and opened again"
+        "\ndemonstration: a recording of four samples, written to memory and opened again"
     )?;
     let mut buffer = [0; 64];
-    let samples = [(100, -3), (-2048, 2047), (0, 1)].map(|(re, im)| ConverterSample::new(re, im));
+    let samples = [(100, -3), (-2048, 2047), (0, 1), (800, 600)].map(|(re, im)| {
+        ConverterSample::new(re, im)
+    });
     let length = write(&samples, RATE, &mut buffer)?;
-    show(rt, buffer.get(0..length).unwrap_or(&[]))?;
+    let bytes = buffer.get(0..length).unwrap_or(&[]);
+    show(rt, bytes)?;
     println!(rt; "the same bytes with one at the end missing")?;
     show(rt, buffer.get(0..length.saturating_sub(1)).unwrap_or(&[]))?;
-    Ok(())
+    let signal = Recording::<Signal>::open(bytes, Input::Signal.number()).map_err(|refusal| {
+        Failure::Refused("demonstration", Refused(refusal))
+    })?;
+    show_link(rt, signal)
 }

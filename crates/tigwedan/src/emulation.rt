@@ -48,8 +48,11 @@ pub(crate) fn perform<'a>(
     // The calls have a player of their own, which uses its recordings up.
     if let Task::Replay(file) = task {
         let steps = steps_of(rt, file)?;
-        let recordings = inputs.open(signal_bytes.as_slice(), gain_bytes.as_slice())?;
-        replay::replay(rt, &settings, recordings, steps.as_slice())?;
+        let LinkRecordings { signal, gain } = inputs.open(
+            signal_bytes.as_slice(),
+            gain_bytes.as_slice(),
+        )?;
+        replay::replay(rt, &settings, signal, gain, steps.as_slice())?;
     }
     let LinkRecordings { signal, gain } = inputs.open(
         signal_bytes.as_slice(),

@@ -2,20 +2,26 @@
 use crate::failure::Failure;
 use lines::numbered::Numbered;
 use link::settings::Settings;
-use recordings::pair::LinkRecordings;
+use samples::converter::ConverterSample;
+use samples::gain_index::GainIndex;
+use source::source::Source;
 use standard::standard_run;
 use transcript::answers::AnswerLines;
 use transcript::step::{Step, calls_of};
 
 // Makes the calls on one player over the standard chain, and prints a line for each.
-pub(crate) fn replay<'a>(
+pub(crate) fn replay<
+    'a,
+    S: Source<Item = ConverterSample> + Drop,
+    G: Source<Item = GainIndex> + Drop,
+>(
     rt: &HostRuntime,
     settings: &Settings,
-    recordings: LinkRecordings<'_>,
+    signal: S,
+    gain: G,
     steps: &[Numbered<Step>],
 ) -> Result<(), Failure<'a>> {
     let heap = rt.alloc();
-    let LinkRecordings { signal, gain } = recordings;
     let calls = calls_of(heap, steps)?;
     let answers = standard_run(heap, settings, signal, gain, calls)?;
     let lines = AnswerLines {

@@ -33,17 +33,9 @@ pub const USAGE: &str = "tigwedan: a radio channel emulator
 
 usage:
   tigwedan                          shows this text and a small demonstration
+  tigwedan help                     shows this text
   tigwedan check signal|gain FILE   opens FILE as a recording and tells what it holds
   tigwedan copy IN OUT              reads the signal recording IN and writes it anew to OUT
-
-Recordings are RIFF/WAVE files. A signal recording has two channels (real and imaginary part) of 12 bits in 16, a gain
-recording one channel of gain indices, 0 to 127, in 8 bits. A recording that is written has at most 65536 bytes, which
-is 16373 samples: what is left goes to further files, named as OUT with -2, -3 .. before its ending.
-A recording that is refused, or a copy that meets a fault, ends the program with status 1.";
-
-pub const CHAIN_USAGE: &str = "
-further commands:
-  tigwedan help                     shows this text
   tigwedan play SIGNAL GAIN OUT [SETTINGS]
                                     plays SIGNAL through the radio link, with the receive gains that the
                                     indices in GAIN choose, and writes what the receiver's converter gives
@@ -53,6 +45,9 @@ further commands:
   tigwedan bench SIGNAL GAIN RUNS [SETTINGS]
                                     plays the link RUNS times and tells the best time an item
 
+Recordings are RIFF/WAVE files. A signal recording has two channels (real and imaginary part) of 12 bits in 16, a gain
+recording one channel of gain indices, 0 to 127, in 8 bits. A recording that is written has at most 65536 bytes, which
+is 16373 samples: what is left goes to further files, named as OUT with -2, -3 .. before its ending.
 SETTINGS has one setting a line, a word and its numbers; without it they are fresh. CALLS has one call a line:
 next, fill N, skip N or rewind. In both, # starts a comment.
-A line that is refused, or a fault that is met by play or bench, ends the program with status 1.";
+A recording or a line that is refused, or a fault that is met by copy, play or bench, ends the program with status 1.";
