@@ -66,6 +66,7 @@ impl<S: Source<Item = WorkingSample>, G: Source<Item = GainIndex>> Source for Li
 
     ghost left = { link_left S.Source.left G.Source.left };
 
+    #[inline(always)]
     fn next(&mut self) -> Result<Option<ConverterSample>, Fault> {
         self.stages.next()
     }

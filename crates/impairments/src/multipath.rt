@@ -23,9 +23,9 @@ pub struct Multipath {
 }
 
 // The echo of sample x on a path: coefficient × x.
-fn echo(path: Path, x: WorkingSample) -> (i64, i64)
-    ensures re { result.0 ≡ echo_re path x }
-    ensures im { result.1 ≡ echo_im path x }
+fn echo(path: &Path, x: &WorkingSample) -> (i64, i64)
+    ensures re { result.0 ≡ echo_re path.now x.now }
+    ensures im { result.1 ≡ echo_im path.now x.now }
     ensures re_within { Between (2 ^ 31) result.0 }
     ensures im_within { Between (2 ^ 31) result.1 }
 {
@@ -45,11 +45,12 @@ impl Multipath {
         }
     }
 
-    // The sample `delay` places back from the newest one.
-    fn back(&self, delay: u8) -> WorkingSample
-        ensures { result ≡ ring self.now.echo_line self.now.newest delay }
+    // The sample `delay` places back from the newest one. Lent, so that its parts are read one by one, as they were written: the
+    // processor waits where a word is read that was just written in halves.
+    fn back(&self, delay: u8) -> &WorkingSample
+        ensures { result.now ≡ ring self.now.echo_line self.now.newest delay }
     {
-        self.echo_line[(self.newest + delay as usize) & 63]
+        &self.echo_line[(self.newest + delay as usize) & 63]
     }
 
     // The sum of the echoes of all paths, rounded down and clipped once. By rule it goes over the path records with
@@ -64,7 +65,7 @@ impl Multipath {
                 break;
             }
             let x = self.back(path.delay);
-            let (echo_re, echo_im) = echo(*path, x);
+            let (echo_re, echo_im) = echo(path, x);
             re += echo_re;
             im += echo_im;
         }

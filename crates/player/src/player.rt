@@ -38,6 +38,7 @@ impl<S: Source> Player<S> {
     }
 
     // The next item; at the end no item, or the fault.
+    #[inline(always)]
     pub fn next(&mut self) -> Result<Option<S::Item>, PlayerFault>
         ensures answers { result ≡ next_answer self.old }
         ensures moves { self.new ≡ onward 1 self.old }
@@ -52,6 +53,7 @@ impl<S: Source> Player<S> {
     }
 
     // The next item for a call that goes on. Once it has got items, a fault is left to the call after it.
+    #[inline(always)]
     fn more(&mut self, got: bool) -> Result<Option<S::Item>, PlayerFault>
         ensures answers { result ≡ left_to_later got (next_answer self.old) }
         ensures moves { self.new ≡ onward 1 self.old }

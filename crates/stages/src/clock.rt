@@ -76,6 +76,7 @@ impl Line {
 
     // The next output over the items below. The line is drawn on only as far as the output needs: at most two items, none
     // early. An ending met on the way leaves the line as it stands, so the next call asks again.
+    #[inline(always)]
     fn next_output<S: Source<Item = WorkingSample>>(
         &mut self,
         below: &mut S,
@@ -127,6 +128,7 @@ impl<S: Source<Item = WorkingSample>> Source for Clock<S> {
 
     ghost left = { clock_left S.Source.left };
 
+    #[inline(always)]
     fn next(&mut self) -> Result<Option<WorkingSample>, Fault> {
         match &mut self.line {
             Some(line) => line.next_output(&mut self.below),

@@ -45,6 +45,7 @@ impl<S: Source, M: Mapping<From = S::Item>> Source for Each<S, M> {
 
     ghost left = { each_left M.Mapping.formula S.Source.left };
 
+    #[inline(always)]
     fn next(&mut self) -> Result<Option<M::To>, Fault> {
         let x = self.below.next()?;
         Ok(x.map(|x| self.mapping.apply(x)))

@@ -35,6 +35,7 @@ impl<T: Copy> Source for Held<T> {
 
     ghost left = { held_left };
 
+    #[inline(always)]
     fn next(&mut self) -> Result<Option<T>, Fault> {
         if self.remaining == 0 {
             return Ok(None);

@@ -34,6 +34,7 @@ impl<S: Source> Source for Lead<S> {
 
     ghost left = { lead_left S.Source.left };
 
+    #[inline(always)]
     fn next(&mut self) -> Result<Option<S::Item>, Fault> {
         match self.copies.next()? {
             Some(x) => Ok(Some(x)),

@@ -59,6 +59,7 @@ impl Source for Noise {
 
     ghost left = { noise_left };
 
+    #[inline(always)]
     fn next(&mut self) -> Result<Option<AirSample>, Fault> {
         if self.remaining == 0 {
             return Ok(None);

@@ -37,18 +37,22 @@ impl<A: Source, B: Source> Source for Pairing<A, B> {
 
     ghost left = { pairing_left A.Source.left B.Source.left };
 
+    #[inline(always)]
     fn next(&mut self) -> Result<Option<(A::Item, B::Item)>, Fault> {
-        if self.kept.is_none() {
-            self.kept = self.first.next()?;
-        }
-        let Some(x) = self.kept else {
-            return Ok(None);
+        let x = match self.kept {
+            Some(x) => x,
+            None => match self.first.next()? {
+                Some(x) => x,
+                None => return Ok(None),
+            },
         };
-        let Some(y) = self.second.next()? else {
-            return Ok(None);
+        let partner = self.second.next();
+        // Written only now, so that the item stays in a register where its partner comes.
+        self.kept = match partner {
+            Ok(Some(_)) => None,
+            _ => Some(x),
         };
-        self.kept = None;
-        Ok(Some((x, y)))
+        Ok(partner?.map(|y| (x, y)))
     }
 
     fn rewind(&mut self) {

@@ -57,6 +57,7 @@ impl<S: Source, M: Memory<From = S::Item>> Source for Scan<S, M> {
 
     ghost left = { scan_left M.Memory.makes S.Source.left };
 
+    #[inline(always)]
     fn next(&mut self) -> Result<Option<M::To>, Fault> {
         // Not `map`: after it nothing is known of a memory that the closure changed.
         match self.below.next()? {

@@ -24,8 +24,8 @@ loop-i-preserved c =
     let l : c.loop-i.i < length ps = omega arith in
     let re : SFits w64 e.0 = search rules in
     let im : SFits w64 e.1 = search rules in
-    let p = echo_more echo_re x ps c.loop-i.i d c.back-x.result e.0 l c.back-x.ensures c.echo-echo_re.ensures.re in
-    let q = echo_more echo_im x ps c.loop-i.i d c.back-x.result e.1 l c.back-x.ensures c.echo-echo_re.ensures.im in
+    let p = echo_more echo_re x ps c.loop-i.i d c.back-x.result.now e.0 l c.back-x.ensures c.echo-echo_re.ensures.re in
+    let q = echo_more echo_im x ps c.loop-i.i d c.back-x.result.now e.1 l c.back-x.ensures c.echo-echo_re.ensures.im in
     (omega arith, turn c.loop-i.i _ _ _ e.0 i c.loop-i.invariant.1 re c.echo-echo_re.ensures.re_within p, turn c.loop-i.i _ _ _ e.1 i c.loop-i.invariant.2 im c.echo-echo_re.ensures.im_within q)
 
 pub returns : goal.returns
