@@ -44,6 +44,7 @@ impl Mapping for Parts {
 
     ghost formula = { λ _ x. parts x };
 
+    #[inline(always)]
     fn apply(&self, x: ConverterSample) -> Iq {
         Iq { re: x.re, im: x.im }
     }

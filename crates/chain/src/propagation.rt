@@ -41,6 +41,7 @@ impl Memory for Propagation {
 
     ghost nothing = { unfold echoes propagating in λ s. refl };
 
+    #[inline(always)]
     fn step(&mut self, x: WorkingSample) -> WorkingSample {
         let echoed = self.multipath.step(x);
         self.rotator.step(echoed)

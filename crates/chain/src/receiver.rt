@@ -43,6 +43,7 @@ impl Mapping for Receiver {
     ghost formula = { receiver_formula };
 
     // Written out: pairs of formulas would make as deep a type as stages in a row.
+    #[inline(always)]
     fn apply(&self, x: (AirSample, GainIndex)) -> ConverterSample {
         let gained = self.gain.apply(x);
         let shifted = self.offset.apply(gained);

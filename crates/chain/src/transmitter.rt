@@ -38,6 +38,7 @@ impl Mapping for Transmitter {
     ghost formula = { transmitter_formula };
 
     // Written out: pairs of formulas would make as deep a type as stages in a row.
+    #[inline(always)]
     fn apply(&self, x: WorkingSample) -> WorkingSample {
         let shifted = self.offset.apply(x);
         let balanced = self.imbalance.apply(shifted);

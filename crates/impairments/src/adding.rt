@@ -17,6 +17,7 @@ impl Mapping for Adding {
 
     ghost formula = { λ _ x. summed x.0 x.1 };
 
+    #[inline(always)]
     fn apply(&self, x: (AirSample, AirSample)) -> AirSample {
         let (signal, noise) = x;
         let re = i64::from(signal.re) + i64::from(noise.re);

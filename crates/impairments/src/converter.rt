@@ -18,6 +18,7 @@ impl Mapping for Quantizer {
 
     ghost formula = { λ _ x. quantized x };
 
+    #[inline(always)]
     fn apply(&self, x: AirSample) -> ConverterSample {
         ConverterSample::divided(i64::from(x.re), i64::from(x.im), 4)
     }

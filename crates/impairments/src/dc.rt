@@ -32,6 +32,7 @@ impl<K: Sample> Mapping for DcOffset<K> {
 
     ghost formula = { λ s x. offset_by K.Sample.sample s.offset (K.Sample.real x) (K.Sample.imaginary x) };
 
+    #[inline(always)]
     fn apply(&self, x: K) -> K {
         let re = i64::from(x.re()) + i64::from(self.offset.re);
         let im = i64::from(x.im()) + i64::from(self.offset.im);

@@ -78,6 +78,7 @@ impl Mapping for ChannelGain {
 
     ghost formula = { λ s x. gained s.gain x.re x.im };
 
+    #[inline(always)]
     fn apply(&self, x: WorkingSample) -> AirSample {
         gained(self.gain, x)
     }
@@ -90,6 +91,7 @@ impl Mapping for ReceiveGain {
 
     ghost formula = { λ s x. gained (chosen s.gains x.1) x.0.re x.0.im };
 
+    #[inline(always)]
     fn apply(&self, x: (AirSample, GainIndex)) -> AirSample {
         let (sample, index) = x;
         gained(self.gains[usize::from(index.index)], sample)

@@ -48,6 +48,7 @@ impl<K: Sample> Mapping for Imbalance<K> {
 
     ghost formula = { λ s x. balanced K.Sample.sample s.balance (K.Sample.real x) (K.Sample.imaginary x) };
 
+    #[inline(always)]
     fn apply(&self, x: K) -> K {
         let real = x.re();
         let imaginary = x.im();

@@ -84,6 +84,7 @@ impl Memory for Multipath {
 
     ghost nothing = { unfold echoes in λ s. refl };
 
+    #[inline(always)]
     fn step(&mut self, x: WorkingSample) -> WorkingSample {
         self.newest = (self.newest + 63) & 63;
         self.echo_line[self.newest] = x;

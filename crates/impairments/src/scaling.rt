@@ -37,6 +37,7 @@ impl Mapping for Scaling {
 
     ghost formula = { λ s x. scaled s.factor x };
 
+    #[inline(always)]
     fn apply(&self, x: ConverterSample) -> WorkingSample {
         let re = scaled_part(self.factor, x.re());
         let im = scaled_part(self.factor, x.im());

@@ -54,6 +54,7 @@ impl<'a, L: Layout> Source for Recording<'a, L> {
 
     ghost left = { λ s. left_of L.meaning L.FORMAT.align L.FAULT s.input s.whole.now s.left.now };
 
+    #[inline(always)]
     fn next(&mut self) -> Result<Option<L::Item>, Fault> {
         let align = usize::from(L::FORMAT.align);
         if self.left.len() < align {

@@ -47,8 +47,10 @@ impl<S: Source, M: Mapping<From = S::Item>> Source for Each<S, M> {
 
     #[inline(always)]
     fn next(&mut self) -> Result<Option<M::To>, Fault> {
-        let x = self.below.next()?;
-        Ok(x.map(|x| self.mapping.apply(x)))
+        match self.below.next()? {
+            Some(x) => Ok(Some(self.mapping.apply(x))),
+            None => Ok(None),
+        }
     }
 
     fn rewind(&mut self) {

@@ -62,6 +62,7 @@ impl Mapping for Amplifier {
 
     ghost formula = { λ s x. (if s.bypassed then x else amplified s.table.entries x) };
 
+    #[inline(always)]
     fn apply(&self, x: WorkingSample) -> WorkingSample {
         if self.bypassed {
             x

@@ -55,6 +55,7 @@ impl Memory for FrequencyOffset {
 
     ghost nothing = { first_of (Prim.search rules, Prim.grind (arith, Self.row.coded.inj)) };
 
+    #[inline(always)]
     fn step(&mut self, x: WorkingSample) -> WorkingSample {
         let turned = turn_to(self.phase, x);
         self.phase = next_phase(self.phase, self.f);
