@@ -1,5 +1,6 @@
 -- The echoes of a multipath channel.
 use Rattle.std.specs.Prelude.{ℕ, ◌+◌, ◌-◌, ◌%◌, ◌^◌, cond, List, length, take, ℤ, pos, ◌+ℤ◌, fold, nat_le, slice_index_or}
+use Rattle.std.proofs.Common.{lit≤}
 use Rattle.samples.specs.Arithmetic.{floor_by}
 use Rattle.samples.specs.Complex.{times}
 use Rattle.samples.specs.Kinds.{working, silent}
@@ -7,6 +8,10 @@ use Rattle.samples.specs.declared.kinds.WorkingSample.{WorkingSample}
 use Rattle.source.specs.Streams.{tabulate}
 use Rattle.impairments.specs.declared.path.Path.{Path}
 use Rattle.impairments.specs.declared.paths.Paths.{Paths}
+
+-- the signal itself: coefficient 1, no delay
+abbrev pub neutral_path : Path
+neutral_path = record { re = pos 8192; im = pos 0; delay = 0; delay_within = lit≤ tt }
 
 -- the paths that count
 abbrev pub used : Paths → List Path

@@ -12,7 +12,7 @@ use Rattle.link.specs.declared.paths.RawPath.{RawPath}
 use Rattle.link.specs.declared.refusal.SettingRefusal.TheVariants.{PathOutside, EntryOutside}
 use Rattle.link.specs.Decisions.{both, between, each_checked}
 use Rattle.link.specs.Firsts.{First, Few, Long}
-use Rattle.link.specs.Fresh.{neutral_path}
+use Rattle.impairments.specs.Multipath.{neutral_path}
 use Rattle.link.specs.Lists.{Near, Amplitude, paths_of, length-paths_of, padded, checked_paths, entries_of, checked_table}
 use Rattle.link.proofs.Decided.{both_made, both_ok, first_refused, second_refused, all_accepted, first_wrong}
 use Rattle.link.proofs.Equal.{same_path, same_paths, same_entry, same_table}

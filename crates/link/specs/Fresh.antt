@@ -3,11 +3,11 @@ use Rattle.std.specs.Prelude.{true, replicate, pos}
 use Rattle.std.proofs.Common.{lit<, lit≤}
 use Rattle.std.proofs.lemmas.List.{length-replicate}
 use Rattle.std.specs.Int.Signed.{le_z_yes}
+use Rattle.impairments.specs.Levels.{unity}
+use Rattle.impairments.specs.Multipath.{neutral_path}
 use Rattle.impairments.specs.declared.balance.Balance.{Balance}
 use Rattle.turns.specs.declared.entry.Entry.{Entry}
-use Rattle.impairments.specs.declared.gain.Gain.{Gain}
 use Rattle.impairments.specs.declared.offset.Offset.{Offset}
-use Rattle.impairments.specs.declared.path.Path.{Path}
 use Rattle.turns.specs.declared.table.AmplifierTable.{AmplifierTable}
 use Rattle.impairments.specs.declared.paths.Paths.{Paths}
 use Rattle.link.specs.declared.settings.Settings.{Settings}
@@ -19,22 +19,6 @@ no_offset = record { re = pos 0; im = pos 0 }
 -- an imbalance that changes nothing
 abbrev pub neutral_balance : Balance
 neutral_balance = record { a = pos 16384; b = pos 16384; c = pos 0 }
-
--- the signal itself: coefficient 1, no delay
-abbrev pub neutral_path : Path
-neutral_path = record { re = pos 8192; im = pos 0; delay = 0; delay_within = lit≤ tt }
-
--- a gain of 1
-abbrev pub unit_gain : Gain
-unit_gain =
-    record {
-      shift = pos 1;
-      factor = 128;
-      shift_low = le_z_yes tt;
-      shift_high = le_z_yes tt;
-      factor_low = lit≤ tt;
-      factor_high = lit≤ tt;
-    }
 
 -- full amplitude, phase not turned
 abbrev pub full_entry : Entry
@@ -68,9 +52,9 @@ fresh =
       frequency = record { f = pos 0; low = le_z_yes tt; high = le_z_yes tt };
       clock = record { c = pos 0; low = le_z_yes tt; high = le_z_yes tt };
       clock_bypass = true;
-      gain = unit_gain;
+      gain = unity;
       seeds = record { re = 1; im = 1; re_moves = lit< tt; im_moves = lit< tt };
-      receive_gains = replicate 128 unit_gain;
+      receive_gains = replicate 128 unity;
       lead = 0;
       rx_dc = no_offset;
       rx_imbalance = neutral_balance;

@@ -12,7 +12,7 @@ use Rattle.link.specs.declared.paths.RawPath.{RawPath}
 use Rattle.link.specs.declared.refusal.SettingRefusal.{SettingRefusal}
 use Rattle.link.specs.declared.refusal.SettingRefusal.TheVariants.{PathOutside, EntryOutside}
 use Rattle.link.specs.Decisions.{both, between, checked_both, each_checked}
-use Rattle.link.specs.Fresh.{neutral_path}
+use Rattle.impairments.specs.Multipath.{neutral_path}
 
 -- its delay is at most 63 samples
 abbrev pub Near : RawPath → Type 0

@@ -8,11 +8,11 @@ use Rattle.samples.specs.Roots.{root, root_from, grown}
 use Rattle.source.specs.Streams.{answer, rest}
 use Rattle.stages.specs.Noise.{noise}
 use Rattle.stages.specs.Wholes.{paired}
-use Rattle.impairments.specs.Multipath.{echoes, heard, total, silence}
+use Rattle.impairments.specs.Multipath.{neutral_path, echoes, heard, total, silence}
 use Rattle.turns.specs.Amplifier.{amplified, magnitude, interpolated}
 use Rattle.turns.specs.Frequency.{frequency_offset}
 use Rattle.turns.specs.Turns.{turned}
-use Rattle.worked.specs.Worked.{Worked, minus, real, halving, direct, echo, three_then_fault, two_indices, left_after}
+use Rattle.worked.specs.Worked.{Worked, minus, real, halving, echo, three_then_fault, two_indices, left_after}
 
 amplifies : amplified halving (record { re = pos 3; im = pos 4 }) ≡ record { re = pos 1; im = pos 2 }
 unfolding amplified magnitude interpolated index_16 phasor_of cosine rounded halvings halved step_cosine root root_from grown turned
@@ -22,7 +22,7 @@ amplifies_below : amplified halving (record { re = minus 3; im = pos 0 }) ≡ re
 unfolding amplified magnitude interpolated index_16 phasor_of cosine rounded halvings halved step_cosine root root_from grown turned
 amplifies_below = refl
 
-echoes_heard : echoes (direct ∷ echo ∷ []) silence (real 1600 ∷ real 0 ∷ []) ≡ real 1600 ∷ real 800 ∷ []
+echoes_heard : echoes (neutral_path ∷ echo ∷ []) silence (real 1600 ∷ real 0 ∷ []) ≡ real 1600 ∷ real 800 ∷ []
 unfolding echoes heard total
 echoes_heard = refl
 

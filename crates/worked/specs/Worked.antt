@@ -12,7 +12,7 @@ use Rattle.stages.specs.Clock.{outputs, clock_step}
 use Rattle.stages.specs.Noise.{noise}
 use Rattle.stages.specs.Wholes.{paired}
 use Rattle.impairments.specs.Levels.{scaled, gained}
-use Rattle.impairments.specs.Multipath.{echoes, silence}
+use Rattle.impairments.specs.Multipath.{neutral_path, echoes, silence}
 use Rattle.impairments.specs.declared.gain.Gain.{Gain}
 use Rattle.impairments.specs.declared.path.Path.{Path}
 use Rattle.turns.specs.Amplifier.{amplified}
@@ -43,10 +43,7 @@ lowest_gain =
 abbrev pub halving : List Entry
 halving = replicate 513 (record { amplitude = 16384; phase = pos 0; amplitude_within = lit≤ tt })
 
--- a path with a real coefficient, 8192 for 1, and a delay of 0 or 1
-abbrev pub direct : Path
-direct = record { re = pos 8192; im = pos 0; delay = 0; delay_within = lit≤ tt }
-
+-- an echo half as strong, one sample late
 abbrev pub echo : Path
 echo = record { re = pos 4096; im = pos 0; delay = 1; delay_within = lit≤ tt }
 
@@ -75,7 +72,7 @@ pub record Worked : Type 0 where
   pub amplifier : amplified halving (record { re = pos 3; im = pos 4 }) ≡ record { re = pos 1; im = pos 2 }
   pub amplifier_below : amplified halving (record { re = minus 3; im = pos 0 }) ≡ record { re = minus 2; im = pos 0 }
   -- the signal, and half of it one sample later
-  pub multipath : echoes (direct ∷ echo ∷ []) silence (real 1600 ∷ real 0 ∷ []) ≡ real 1600 ∷ real 800 ∷ []
+  pub multipath : echoes (neutral_path ∷ echo ∷ []) silence (real 1600 ∷ real 0 ∷ []) ≡ real 1600 ∷ real 800 ∷ []
   -- a quarter turn back from sample to sample
   pub frequency : frequency_offset 0 (pos (2 ^ 46)) (real 100 ∷ real 100 ∷ []) ≡ real 100 ∷ record { re = pos 0; im = minus 100 } ∷ []
   -- a clock that is slow by 2 ^ -10 of a sample, and one that is fast by as much

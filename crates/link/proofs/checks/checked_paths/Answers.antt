@@ -2,7 +2,7 @@ use Rattle.std.proofs.Common.{◌≡◌, length, get_or, pos, refl, ◌∙◌, a
 use Rattle.std.proofs.lemmas.List.Elements.{AllWithin-more, AllWithin-upto}
 use Rattle.std.proofs.lemmas.Int.{to_z-of_z}
 use Rattle.link.specs.declared.paths.RawPath.{RawPath}
-use Rattle.link.specs.Fresh.{neutral_path}
+use Rattle.impairments.specs.Multipath.{neutral_path}
 use Rattle.link.specs.Lists.{Near}
 use Rattle.link.proofs.Filled.{at_place, filled_all, part_more}
 use Rattle.link.proofs.Listed.{numbers, paths_made, long_delay}

@@ -1,6 +1,6 @@
 use Rattle.std.proofs.Common.{◌≡◌, map, length}
 use Rattle.std.specs.List.{AllWithin}
-use Rattle.link.specs.Fresh.{neutral_path}
+use Rattle.impairments.specs.Multipath.{neutral_path}
 use Rattle.link.specs.Lists.{Near}
 use Rattle.link.proofs.Filled.{filled}
 use Rattle.link.proofs.Listed.{numbers}
