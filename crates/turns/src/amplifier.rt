@@ -40,7 +40,8 @@ fn amplify(table: &AmplifierTable, x: WorkingSample) -> WorkingSample
     ensures { result ≡ amplified table.now.entries x }
 {
     let (amplitude, phase) = entry_at(table, magnitude_of(x));
-    let (re, im) = product((x.re, x.im), phasor(index_16(i64::from(phase))));
+    let (cosine, sine) = phasor(index_16(i64::from(phase)));
+    let (re, im) = product((x.re, x.im), (cosine, sine));
     let gain = i64::from(amplitude);
     WorkingSample::divided(gain * re, gain * im, 29)
 }

@@ -30,7 +30,8 @@ fn next_phase(phase: u64, f: i64) -> u64
 fn turn_to(phase: u64, x: WorkingSample) -> WorkingSample
     ensures { result ≡ turned_to phase x }
 {
-    let (re, im) = product((x.re, x.im), phasor(index_48(phase)));
+    let (cosine, sine) = phasor(index_48(phase));
+    let (re, im) = product((x.re, x.im), (cosine, sine));
     WorkingSample::divided(re, im, 14)
 }
 

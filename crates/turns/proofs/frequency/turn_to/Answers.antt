@@ -9,7 +9,7 @@ pub returns : goal.returns
 unfolding turned
 returns c =
     let x = c.args.x in
-    let p = c.phasor.result in
+    let p = c.phasor-cosine.result in
     let t = c.product-re.result in
     let xr : SFits w16 x.re = search rules in
     let xi : SFits w16 x.im = search rules in
@@ -19,4 +19,4 @@ returns c =
     let t1 : SFits w64 t.1 = omega (arith, ints) in
     let v : t ≡ times (x.re, x.im) p = simp to_z-of_z at c.product-re.ensures.value in
     let d : c.divided.result ≡ divided t 14 = simp to_z-of_z at c.divided.ensures in
-    d ∙ ap (λ (q : ℤ × ℤ). divided q 14) (v ∙ ap (times (x.re, x.im)) (c.phasor.ensures.value ∙ ap phasor_of c.index_48.ensures))
+    d ∙ ap (λ (q : ℤ × ℤ). divided q 14) (v ∙ ap (times (x.re, x.im)) (c.phasor-cosine.ensures.value ∙ ap phasor_of c.index_48.ensures))
