@@ -32,7 +32,7 @@ fn play_chain<S: Source<Item = ConverterSample> + Drop, G: Source<Item = GainInd
     listen(chain, out)
 }
 
-// Opens both recordings and plays the chain over them. Bytes one by one, as C hands them in.
+// Opens both recordings and plays the chain over them.
 fn play_recordings(
     settings: &Settings,
     signal: &[u8],

@@ -1,5 +1,5 @@
 // Wholes as lists: all that a source hands out, and how it ends.
-ghost use Rattle.std.specs.Prelude.{◌≡◌, IfOk};
+ghost use Rattle.std.specs.Prelude.{◌≡◌, [], IfOk};
 ghost use Rattle.comparison.specs.Differences.{whole_difference};
 
 use crate::difference::first_difference;
@@ -21,6 +21,8 @@ impl<T: Copy> Whole<T, Ending> {
     ) -> Result<Whole<T, Ending>, AllocError>
         ensures items { IfOk result (λ w. w.items.items ≡ (S.Source.left source.old).items) }
         ensures ending { IfOk result (λ w. w.ending ≡ (S.Source.left source.old).ending) }
+        ensures moves { IfOk result (λ _. S.Source.left source.new ≡ record { items = []; ending = (S.Source.left source.old).ending }) }
+        ensures same { S.Source.whole source.new ≡ S.Source.whole source.old }
     {
         let mut items = Vec::new(heap);
         for item in source.items() {

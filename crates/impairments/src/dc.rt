@@ -15,6 +15,7 @@ pub struct DcOffset<K> {
 }
 
 impl<K: Sample> DcOffset<K> {
+    // Adds this offset to each part.
     pub fn new(offset: Offset) -> Self
         ensures { result.offset ≡ offset }
     {

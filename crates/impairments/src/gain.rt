@@ -1,6 +1,6 @@
 ghost use Rattle.std.specs.Prelude.{◌≤◌, pos, negsuc, ◌≤ℤ◌};
 
-// A gain of factor × 2^(shift - 8).
+// A gain of factor × 2^(shift - 8), with shift -32 to 18 and factor 128 to 255.
 #[derive(Clone, Copy, PartialEq, Eq, Debug)]
 pub struct Gain {
     pub shift: i8,

@@ -18,6 +18,7 @@ pub struct ChannelGain {
 }
 
 impl ChannelGain {
+    // The same gain for every sample.
     pub fn new(gain: Gain) -> Self
         ensures { result.gain ≡ gain }
     {
@@ -33,6 +34,7 @@ pub struct ReceiveGain {
 }
 
 impl ReceiveGain {
+    // Entry i is the gain of index i, 0 to 127.
     pub fn new(gains: [Gain; 128]) -> Self
         ensures { result.gains ≡ gains }
     {

@@ -17,6 +17,7 @@ pub struct Imbalance<K> {
 }
 
 impl<K: Sample> Imbalance<K> {
+    // 16384 stands for 1; every number is good.
     pub fn new(balance: Balance) -> Self
         ensures { result.balance ≡ balance }
     {

@@ -53,8 +53,8 @@ impl Multipath {
         &self.echo_line[(self.newest + delay as usize) & 63]
     }
 
-    // The sum of the echoes of all paths, rounded down and clipped once. By rule it goes over the path records with
-    // their index.
+    // The sum of the echoes of all paths, rounded down and clipped once. It goes over the path records with their index, and
+    // stops behind the last that counts.
     fn heard(&self) -> WorkingSample
         ensures { result ≡ heard (used self.now.paths) (ring self.now.echo_line self.now.newest) }
     {

@@ -1,4 +1,4 @@
-// A DC offset, added to each part.
+// A DC offset, added to each part, in the sample's own units.
 #[derive(Clone, Copy, PartialEq, Eq, Debug)]
 pub struct Offset {
     pub re: i16,

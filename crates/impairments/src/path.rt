@@ -1,6 +1,6 @@
 ghost use Rattle.std.specs.Prelude.{◌≤◌};
 
-// One path of a multipath channel: a complex coefficient, 8192 for 1, and a delay in samples.
+// One path of a multipath channel: a complex coefficient, 8192 for 1, and a delay of 0 to 63 samples.
 #[derive(Clone, Copy, PartialEq, Eq, Debug)]
 pub struct Path {
     pub re: i16,

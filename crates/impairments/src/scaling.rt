@@ -16,7 +16,7 @@ pub struct Scaling {
 }
 
 impl Scaling {
-    // The factor is 256 for 1.
+    // The factor is 256 for 1, and may be any of 0 to 65535; settings allow 1 to 32767.
     pub fn new(factor: u16) -> Self
         ensures { result.factor ≡ factor }
     {

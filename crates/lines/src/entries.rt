@@ -50,6 +50,7 @@ pub struct Entries<'a, F> {
 }
 
 impl<'a, F: Form> Entries<'a, F> {
+    // All entries of the bytes, each read as the form F.
     pub fn of(heap: Global, bytes: &'a [u8]) -> Entries<'a, F>
         ensures { entries_left result ≡ entries_of bytes.now }
     {

@@ -19,6 +19,7 @@ pub struct Entry<'a> {
 }
 
 impl<'a> Entry<'a> {
+    // The words up to the line's first `#`, if the line is UTF-8 text.
     pub fn of(heap: Global, line: &'a [u8]) -> Result<Entry<'a>, Wrong>
         ensures { MatchResult result
             (λ entry. IsUtf8 line.now × (words_left entry ≡ words_of line.now))

@@ -14,6 +14,7 @@ pub struct Lines<'a> {
 }
 
 impl<'a> Lines<'a> {
+    // All lines of the bytes; the first is line 1.
     pub fn of(bytes: &'a [u8]) -> Lines<'a>
         ensures rest { result.rest.now ≡ bytes.now }
         ensures passed { result.passed ≡ 0 }

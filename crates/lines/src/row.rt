@@ -7,6 +7,7 @@ use crate::fault::Wrong;
 use crate::number::Number;
 use crate::numbers::Numbers;
 
+// One, two or three numbers in a row.
 pub trait Row: Drop + Sized {
     ghost kind: { Kind };
 

@@ -1,6 +1,6 @@
 ghost use Rattle.std.specs.Prelude.{pos, negsuc, ◌≤ℤ◌};
 
-// How far the receiver's frequency is off, in units of 2^-48 of a turn a sample; up to half a turn.
+// How far the receiver's carrier is above the transmitter's, -2^47 to 2^47 - 1, in units of 2^-48 of a turn a sample.
 #[derive(Clone, Copy, PartialEq, Eq, Debug)]
 pub struct FrequencyOffset {
     pub f: i64,

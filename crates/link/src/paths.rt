@@ -1,4 +1,4 @@
-// A path as it is given to the settings, its delay not yet checked.
+// A path as it is given to the settings: a complex coefficient, 8192 for 1, and a delay in samples that is not yet checked.
 #[derive(Clone, Copy, PartialEq, Eq, Debug)]
 pub struct RawPath {
     pub re: i16,

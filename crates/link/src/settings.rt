@@ -94,14 +94,14 @@ impl Settings {
         Ok(())
     }
 
-    // The DC offset of the transmitter, added to each part.
+    // The DC offset of the transmitter, added to each part of a working sample. Never refused.
     pub fn set_tx_dc(&mut self, re: i16, im: i16)
         ensures { self.new ≡ with_tx_dc (offset re im) self.old }
     {
         self.tx_dc = Offset { re, im };
     }
 
-    // The imbalance of the transmitter, 16384 for 1.
+    // The imbalance of the transmitter: re becomes a × re + c × im and im becomes b × im, 16384 for 1. Never refused.
     pub fn set_tx_imbalance(&mut self, a: i16, b: i16, c: i16)
         ensures { self.new ≡ with_tx_imbalance (balance a b c) self.old }
     {
@@ -124,14 +124,14 @@ impl Settings {
         Ok(())
     }
 
-    // Whether the amplifier is left out. Its table stays.
+    // Whether the amplifier is left out. Its table stays. Never refused.
     pub fn set_amplifier_bypass(&mut self, bypass: bool)
         ensures { self.new ≡ with_amplifier_bypass bypass self.old }
     {
         self.amplifier_bypass = bypass;
     }
 
-    // All paths, in place of those before. Refusal 3 with a path number: 10 if there are not 1 to 10 paths, else the
+    // All paths, in place of those before: coefficients 8192 for 1, delays in samples. Refusal 3 with a path number: 10 if there are not 1 to 10 paths, else the
     // first whose delay is over 63.
     pub fn set_paths(&mut self, given: &[RawPath]) -> Result<(), SettingRefusal>
         ensures answers { result ≡ answer (checked_paths given.now) }
@@ -142,7 +142,7 @@ impl Settings {
         Ok(())
     }
 
-    // The frequency offset, in units of 2^-48 of a turn a sample. Refusal 7: outside -2^47 to 2^47 - 1.
+    // The frequency offset, in units of 2^-48 of a turn a sample, positive where the receiver's carrier is the higher. Refusal 7: outside -2^47 to 2^47 - 1.
     pub fn set_frequency(&mut self, f: i64) -> Result<(), SettingRefusal>
         ensures answers { result ≡ answer (checked_frequency f) }
         ensures leaves { self.new ≡ after (checked_frequency f) with_frequency self.old }
@@ -151,7 +151,7 @@ impl Settings {
         Ok(())
     }
 
-    // The clock offset, in units of 2^-53 of a sample. Refusal 5: beyond 9,007,199,254,740, up or down.
+    // The clock offset, in units of 2^-53 of a sample, positive where the receiver's clock is the slower. Refusal 5: beyond 9,007,199,254,740, up or down.
     pub fn set_clock(&mut self, c: i64) -> Result<(), SettingRefusal>
         ensures answers { result ≡ answer (checked_clock c) }
         ensures leaves { self.new ≡ after (checked_clock c) with_clock self.old }
@@ -160,7 +160,7 @@ impl Settings {
         Ok(())
     }
 
-    // Whether the clock stage is left out. Its offset stays.
+    // Whether the clock stage is left out. Its offset stays. Never refused.
     pub fn set_clock_bypass(&mut self, bypass: bool)
         ensures { self.new ≡ with_clock_bypass bypass self.old }
     {
@@ -199,21 +199,21 @@ impl Settings {
         Ok(())
     }
 
-    // How many items of gain index 0 stand before the gain indices.
+    // How many items of gain index 0 stand before the gain indices, 0 to 65535. Never refused.
     pub fn set_lead(&mut self, items: u16)
         ensures { self.new ≡ with_lead items self.old }
     {
         self.lead = items;
     }
 
-    // The DC offset of the receiver, added to each part.
+    // The DC offset of the receiver, added to each part of an air sample. Never refused.
     pub fn set_rx_dc(&mut self, re: i16, im: i16)
         ensures { self.new ≡ with_rx_dc (offset re im) self.old }
     {
         self.rx_dc = Offset { re, im };
     }
 
-    // The imbalance of the receiver, 16384 for 1.
+    // The imbalance of the receiver, as the transmitter's. Never refused.
     pub fn set_rx_imbalance(&mut self, a: i16, b: i16, c: i16)
         ensures { self.new ≡ with_rx_imbalance (balance a b c) self.old }
     {

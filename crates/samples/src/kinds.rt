@@ -2,7 +2,7 @@
 ghost use Rattle.std.specs.Prelude.{◌≡◌};
 ghost use Rattle.samples.specs.Kinds.{converter, working, air, gain_index};
 ghost use Rattle.samples.specs.Equal.{same_sample};
-ghost use Rattle.samples.specs.Widths.{clip_same};
+ghost use Rattle.samples.specs.Widths.{clip_same, clips};
 ghost use Rattle.std.proofs.Common.{rules, arith};
 
 use crate::arithmetic::nearest;
@@ -10,14 +10,14 @@ use crate::converter::ConverterSample;
 use crate::gain_index::GainIndex;
 use crate::sample::Sample;
 
-// What the transmitter's stages work on: 16 bits a part.
+// What the stages of transmitter and channel work on: 16 bits a part, -32768 to 32767.
 #[derive(Clone, Copy, PartialEq, Eq, Debug)]
 pub struct WorkingSample {
     pub re: i16,
     pub im: i16,
 }
 
-// What is on the air: 32 bits a part.
+// What is on the air and in the receiver: 32 bits a part, -2^31 to 2^31 - 1.
 #[derive(Clone, Copy, PartialEq, Eq, Debug)]
 pub struct AirSample {
     pub re: i32,
@@ -38,6 +38,8 @@ impl Sample for ConverterSample {
     ghost imaginary = { λ x. x.im };
 
     ghost sample = { converter };
+
+    ghost keeps = { clips 12 };
 
     ghost word = { first_of (Prim.search rules, Prim.grind (arith, Self.row.coded.inj)) };
 
@@ -72,6 +74,8 @@ impl Sample for WorkingSample {
 
     ghost sample = { working };
 
+    ghost keeps = { clips 16 };
+
     ghost word = { Prim.search rules };
 
     ghost real_clipped = { Prim.search rules };
@@ -104,6 +108,8 @@ impl Sample for AirSample {
     ghost imaginary = { λ x. x.im };
 
     ghost sample = { air };
+
+    ghost keeps = { clips 32 };
 
     ghost word = { Prim.search rules };
 

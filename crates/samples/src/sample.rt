@@ -1,6 +1,7 @@
 // What every kind of sample has in common.
 ghost use Rattle.std.specs.Prelude.{◌≡◌, ℕ, ◌^◌, ◌≤◌, ℤ};
 ghost use Rattle.samples.specs.Arithmetic.{clip, floor_by, Within};
+ghost use Rattle.samples.specs.Laws.{Clips};
 
 use crate::arithmetic::floor_shift;
 
@@ -32,6 +33,8 @@ pub trait Sample: Copy {
         ensures value { result ≡ imaginary self }
         ensures within { Within bits result };
 
+    // moving to the nearest keeps order, leaves numbers in range alone and ends in range
+    ghost keeps: { Clips bits };
     // so that an `i32` holds a part, and 64 bits a part times any setting
     ghost word: { bits ≤ 32 };
 

@@ -4,6 +4,7 @@ ghost use Rattle.std.specs.Prelude.{◌≡◌};
 use crate::fault::{Ending, Fault};
 use crate::source::Source;
 
+// All items, those that are left, and how they end.
 #[derive(Clone, Copy)]
 pub struct Listed<'a, T> {
     whole: &'a [T],
@@ -12,6 +13,7 @@ pub struct Listed<'a, T> {
 }
 
 impl<'a, T: Copy> Listed<'a, T> {
+    // Hands out every item of the list, then ends so.
     pub fn new(items: &'a [T], ending: Ending) -> Self
         ensures whole { ⟦<Listed<'a, T> as Source>⟧.whole result ≡ record { items = items.now; ending = ending } }
         ensures left { ⟦<Listed<'a, T> as Source>⟧.left result ≡ record { items = items.now; ending = ending } }

@@ -5,6 +5,7 @@ ghost use Rattle.source.specs.Streams.{Stream, answer, rest};
 use crate::fault::{Ending, Fault};
 use crate::items::Items;
 
+// Hands out items of one kind, one by one, and can start over.
 pub trait Source {
     // The kind of item that it hands out.
     type Item: Copy;

@@ -96,9 +96,9 @@ impl Line {
     }
 }
 
+// A line between the items below; none where the clock is bypassed.
 #[derive(Drop)]
 pub struct Clock<S> {
-    // None where the clock is bypassed.
     line: Option<Line>,
     below: S,
 }

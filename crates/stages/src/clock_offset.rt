@@ -1,6 +1,7 @@
 ghost use Rattle.std.specs.Prelude.{pos, negsuc, ◌≤ℤ◌};
 
-// How far the receiver's sample clock is off, in units of 2^-53 of a sample; up to a thousandth.
+// How much slower the receiver's sample clock is, -9,007,199,254,740 to 9,007,199,254,740, in units of 2^-53 of a sample: up to
+// a thousandth.
 #[derive(Clone, Copy, PartialEq, Eq, Debug)]
 pub struct ClockOffset {
     pub c: i64,

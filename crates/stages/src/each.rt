@@ -18,6 +18,7 @@ pub trait Mapping {
         ensures { result ≡ formula self.now x };
 }
 
+// The items below, each through a formula.
 #[derive(Drop)]
 pub struct Each<S, M> {
     below: S,

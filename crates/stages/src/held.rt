@@ -6,11 +6,12 @@ ghost use Rattle.stages.specs.Wholes.{held};
 use source::fault::Fault;
 use source::source::Source;
 
+// An item, how often it comes in all, 0 to 2^32 - 1, and how often it is still to come.
 #[derive(Drop)]
 pub struct Held<T> {
     item: T,
     times: u32,
-    // How many times the item is still to be handed out, at most `times`.
+    // At most `times`.
     remaining: u32,
 }
 

@@ -7,6 +7,7 @@ use crate::held::Held;
 use source::fault::Fault;
 use source::source::Source;
 
+// Copies of an item, and the items below.
 #[derive(Drop)]
 pub struct Lead<S: Source> {
     copies: Held<S::Item>,

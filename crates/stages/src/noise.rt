@@ -24,6 +24,7 @@ fn level_of(v: u32) -> i32
     (v.count_ones() as i32 - 16) * 199
 }
 
+// So many air samples, 0 to 2^32 - 1, each part -2985 to 3184.
 #[derive(Drop)]
 pub struct Noise {
     seeds: Seeds,
@@ -31,8 +32,7 @@ pub struct Noise {
     // The generators' states, one a part.
     re: u32,
     im: u32,
-    // How many samples are still to be handed out, at most `count`. It counts down by itself, as a held item does: sharing
-    // one comparison and one subtraction would be no plainer.
+    // How many samples are still to be handed out, at most `count`.
     remaining: u32,
 }
 

@@ -6,6 +6,7 @@ ghost use Rattle.stages.specs.Wholes.{paired};
 use source::fault::Fault;
 use source::source::Source;
 
+// Two sources, item beside item.
 #[derive(Drop)]
 pub struct Pairing<A: Source, B> {
     first: A,

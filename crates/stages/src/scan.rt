@@ -1,5 +1,5 @@
-// A stage with a memory: one item out for one item in, made of it and of what went before. Beside Each, as a mapping is
-// asked by `&self` and has a formula of one item, and a memory changes.
+// A stage with a memory: one item out for one item in, made of it and of what went before. Apart from Each, since a memory
+// changes at each item.
 ghost use Rattle.std.specs.Prelude.{◌≡◌, List, [], ◌∷◌};
 ghost use Rattle.stages.specs.Meanings.{scan_whole, scan_left};
 ghost use Rattle.stages.specs.Wholes.{remade};
@@ -28,6 +28,7 @@ pub trait Memory {
     ghost nothing: { (s : Self) → makes s [] ≡ [] };
 }
 
+// The items below, each through a formula that remembers those before it.
 #[derive(Drop)]
 pub struct Scan<S, M> {
     below: S,

@@ -1,6 +1,6 @@
 ghost use Rattle.std.specs.Prelude.{◌<◌};
 
-// The states that the two noise generators start from, one a part. A generator at 0 would stay there.
+// The states that the two noise generators start from, one a part, 1 to 2^32 - 1. A generator at 0 would stay there.
 #[derive(Clone, Copy, PartialEq, Eq, Debug)]
 pub struct Seeds {
     pub re: u32,

@@ -24,7 +24,6 @@ fn play_chain<'a, S: Source<Item = ConverterSample> + Drop, G: Source<Item = Gai
     gain: G,
 ) -> Result<ChainEnding, Failure<'a>> {
     let mut player = standard_player(settings, signal, gain);
-    // A word becomes a type here.
     match task {
         Task::Play(to) => play::play(rt, &mut player, Parts::new(rt, to, rate)),
         Task::Replay(_) => {

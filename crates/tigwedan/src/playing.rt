@@ -18,7 +18,7 @@ where
     F: FnMut(&[ConverterSample]) -> Result<(), E>,
     requires { F.IsAlwaysCallable each }
 {
-    // No `for`: where it goes on, each step tells.
+    // Until a fill answers 0 or a fault.
     loop {
         match player.fill(block) {
             Ok(0) => return Ok(Ok(())),

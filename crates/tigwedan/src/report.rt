@@ -3,7 +3,7 @@ use std::fmt;
 use wave::refusal::OpeningRefusal;
 
 // How something ends, in the words of a summary: finished, or by what ended it.
-// A summary says `then` before a fault, and a refusal its words.
+// Not the `Ends` of `comparison`, which has no `then`.
 #[derive(Clone, Copy)]
 pub struct Ends<F>(pub Result<(), F>);
 

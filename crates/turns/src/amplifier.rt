@@ -1,5 +1,6 @@
 // The power amplifier: what it makes of a sample depends on the sample's magnitude alone.
-ghost use Rattle.std.specs.Prelude.{◌≡◌, ◌≤◌, if◌then◌else◌};
+ghost use Rattle.std.specs.Prelude.{◌≡◌, ℕ, ◌^◌, ◌<◌, ◌≤◌, if◌then◌else◌};
+ghost use Rattle.samples.specs.Roots.{Root, root};
 ghost use Rattle.turns.specs.Amplifier.{amplified, amplitude_of, at_magnitude, phase_of};
 
 use crate::root::magnitude_of;
@@ -40,6 +41,7 @@ fn amplify(table: &AmplifierTable, x: WorkingSample) -> WorkingSample
     ensures { result ≡ amplified table.now.entries x }
 {
     let (amplitude, phase) = entry_at(table, magnitude_of(x));
+    // 16384 for 1.
     let (cosine, sine) = phasor(index_16(i64::from(phase)));
     let (re, im) = product((x.re, x.im), (cosine, sine));
     let gain = i64::from(amplitude);
@@ -47,10 +49,12 @@ fn amplify(table: &AmplifierTable, x: WorkingSample) -> WorkingSample
 }
 
 impl Amplifier {
-    // An amplifier with this table; bypassed, it passes every sample on.
+    // An amplifier with this table; bypassed, it passes every sample on. The roots that its magnitudes are defined by are the
+    // greatest whole numbers whose squares fit.
     pub fn new(table: AmplifierTable, bypassed: bool) -> Self
         ensures table { result.table ≡ table }
         ensures bypassed { result.bypassed ≡ bypassed }
+        ensures exact { (n : ℕ) → n < 2 ^ 32 → Root n (root n) }
     {
         Amplifier { table, bypassed }
     }

@@ -10,7 +10,7 @@ use samples::phasor::{index_48, phasor};
 use samples::sample::Sample;
 use stages::scan::Memory;
 
-// It turns by `f` from sample to sample and stands at `phase`, both 2^48 a turn.
+// The phase of the next sample, which falls by `f` from sample to sample; both 2^48 a turn.
 // Not the setting of this name: it turns by any f.
 #[derive(Clone, Copy, PartialEq, Eq, Debug)]
 pub struct FrequencyOffset {
@@ -30,6 +30,7 @@ fn next_phase(phase: u64, f: i64) -> u64
 fn turn_to(phase: u64, x: WorkingSample) -> WorkingSample
     ensures { result ≡ turned_to phase x }
 {
+    // 16384 for 1.
     let (cosine, sine) = phasor(index_48(phase));
     let (re, im) = product((x.re, x.im), (cosine, sine));
     WorkingSample::divided(re, im, 14)

@@ -19,7 +19,7 @@ enum ChunkKind {
 #[derive(Clone, Copy)]
 pub struct Found {
     pub rate: u32,
-    // Places, as refusals tell places.
+    // Where the data's first byte stands, and how many bytes it has.
     pub start: usize,
     pub size: usize,
 }

@@ -7,8 +7,9 @@ pub const MAX_RATE: u32 = 100_000_000;
 #[derive(Clone, Copy, PartialEq, Eq, Debug)]
 pub struct Format {
     pub channels: u16,
-    // bytes of one item
+    // bytes of one item, all channels
     pub align: u16,
+    // bits of one channel's number
     pub bits: u16,
     ghost takes_room: { 0 < align },
 }
