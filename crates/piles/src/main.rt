@@ -24,7 +24,9 @@ fn around_clock(piles: &mut Piles<'_>) -> anyhow::Result<()> {
     let spoilt = Take::spoilt(80, 70);
     piles.multipaths_around_clock("multipath-clock-multipath-fault", spoilt, FAST)?;
     let long = Take::whole(1100);
-    piles.multipaths_around_clock("multipath-clock-multipath-long", long, SLOW)
+    piles.multipaths_around_clock("multipath-clock-multipath-long", long, SLOW)?;
+    let long_spoilt = Take::spoilt(1100, 1002);
+    piles.multipaths_around_clock("multipath-clock-multipath-long-fault", long_spoilt, SLOW)
 }
 
 fn below_clock(piles: &mut Piles<'_>) -> anyhow::Result<()> {
@@ -32,8 +34,17 @@ fn below_clock(piles: &mut Piles<'_>) -> anyhow::Result<()> {
     piles.lead_below_clock("clock-lead-fault", Take::spoilt(30, 12), FAST)?;
     piles.lead_below_clock("clock-lead-fault-at-once", Take::spoilt(30, 0), FAST)?;
     piles.clock_over_clock("clock-clock", Take::whole(60), FAST, SLOW)?;
+    piles.clock_over_clock("clock-clock-fault", Take::spoilt(60, 31), FAST, FAST)?;
     piles.turned_held("frequency-clock-lead-held", 50, FAST)?;
+    piles.turned_held("frequency-clock-lead-held-slow", 50, SLOW)?;
     piles.turned_signal("frequency-clock-lead-fault", Take::spoilt(50, 20), SLOW)
+}
+
+fn turns(piles: &mut Piles<'_>) -> anyhow::Result<()> {
+    piles.amplified("amplifier-frequency", Take::whole(60))?;
+    piles.amplified("amplifier-frequency-fault", Take::spoilt(60, 41))?;
+    piles.turned_twice("frequency-frequency", Take::whole(40))?;
+    piles.led_twice("lead-lead-fault", Take::spoilt(20, 6))
 }
 
 fn pairings(piles: &mut Piles<'_>) -> anyhow::Result<()> {
@@ -49,6 +60,12 @@ fn pairings(piles: &mut Piles<'_>) -> anyhow::Result<()> {
 fn receivers(piles: &mut Piles<'_>) -> anyhow::Result<()> {
     let whole = Take::whole(40);
     let gains = Take::spoilt(40, 20);
+    piles.receive_gain("receive-gain-noise", whole, whole)?;
+    piles.receive_gain(
+        "receive-gain-noise-signal-fault",
+        Take::spoilt(40, 30),
+        whole,
+    )?;
     piles.receive_gain("receive-gain-noise-gain-fault", whole, gains)?;
     piles.receive_gain(
         "receive-gain-noise-equal-faults",
@@ -63,6 +80,7 @@ fn run(rt: &HostRuntime) -> anyhow::Result<()> {
     let mut piles = Piles::new(rt);
     around_clock(&mut piles)?;
     below_clock(&mut piles)?;
+    turns(&mut piles)?;
     pairings(&mut piles)?;
     receivers(&mut piles)?;
     piles.close()

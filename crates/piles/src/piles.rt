@@ -25,6 +25,7 @@ use stages::noise::Noise;
 use stages::pairing::Pairing;
 use stages::scan::Scan;
 use stages::seeds::Seeds;
+use turns::amplifier::Amplifier;
 use turns::frequency::FrequencyOffset;
 
 // The paths below and above the clock.
@@ -186,6 +187,31 @@ impl Piles<'_> {
             name,
             Clock::new(false, settings::clock_offset(upper)?, once),
         )
+    }
+
+    // An amplifier over a frequency offset of a 256th of a turn a sample: every magnitude and every phase.
+    pub(crate) fn amplified(&mut self, name: &str, signal: Take) -> anyhow::Result<()> {
+        let bytes = signal_bytes(self.heap(), signal)?;
+        let scaled = Each::new(Scaling::new(4096), open_signal(bytes.as_slice())?);
+        let turning = Scan::new(FrequencyOffset::new(1 << 40), scaled);
+        let amplifier = Amplifier::new(settings::amplifier_table()?, false);
+        self.compare(name, Each::new(amplifier, turning))
+    }
+
+    // A frequency offset over another, of half a turn a sample.
+    pub(crate) fn turned_twice(&mut self, name: &str, signal: Take) -> anyhow::Result<()> {
+        let bytes = signal_bytes(self.heap(), signal)?;
+        let scaled = Each::new(Scaling::new(4096), open_signal(bytes.as_slice())?);
+        let once = Scan::new(FrequencyOffset::new(-(1 << 47)), scaled);
+        self.compare(name, Scan::new(FrequencyOffset::new(675_539_944_106), once))
+    }
+
+    // A lead over another.
+    pub(crate) fn led_twice(&mut self, name: &str, signal: Take) -> anyhow::Result<()> {
+        let bytes = signal_bytes(self.heap(), signal)?;
+        let scaled = Each::new(Scaling::new(256), open_signal(bytes.as_slice())?);
+        let lower = Lead::new(2, WorkingSample { re: 1, im: 2 }, scaled);
+        self.compare(name, Lead::new(3, WorkingSample { re: 3, im: 4 }, lower))
     }
 
     // A frequency offset over a clock offset over a lead over a held item.

@@ -7,6 +7,7 @@ use link::refusal::SettingRefusal;
 use link::settings::Settings;
 use stages::clock_offset::ClockOffset;
 use stages::seeds::Seeds;
+use turns::table::AmplifierTable;
 
 // Fresh settings with one of them set.
 fn with<F: FnOnce(&mut Settings) -> Result<(), SettingRefusal>>(set: F) -> anyhow::Result<Settings>
@@ -31,6 +32,21 @@ pub(crate) fn gain(shift: i16, factor: u16) -> anyhow::Result<Gain> {
 
 pub(crate) fn seeds(re: u32, im: u32) -> anyhow::Result<Seeds> {
     Ok(with(|settings| settings.set_seeds(re, im))?.seeds)
+}
+
+fn set_amplifier_table(settings: &mut Settings) -> Result<(), SettingRefusal> {
+    let mut amplitudes = [0; 513];
+    let mut phases = [0; 513];
+    for (q, (amplitude, phase)) in amplitudes.iter_mut().zip(&mut phases).enumerate() {
+        *amplitude = 32767 - 50 * q as u16;
+        *phase = (q as i32 * 300 % 65536 - 32768) as i16;
+    }
+    settings.set_amplifier_table(&amplitudes, &phases)
+}
+
+// An amplifier's table whose entry q has the amplitude 32767 - 50 q and the phase (q × 300) mod 65536 - 32768.
+pub(crate) fn amplifier_table() -> anyhow::Result<AmplifierTable> {
+    Ok(with(set_amplifier_table)?.amplifier)
 }
 
 fn set_receive_gains(settings: &mut Settings) -> Result<(), SettingRefusal> {
