@@ -37,9 +37,9 @@ pub(crate) fn seeds(re: u32, im: u32) -> anyhow::Result<Seeds> {
 fn set_amplifier_table(settings: &mut Settings) -> Result<(), SettingRefusal> {
     let mut amplitudes = [0; 513];
     let mut phases = [0; 513];
-    for (q, (amplitude, phase)) in amplitudes.iter_mut().zip(&mut phases).enumerate() {
-        *amplitude = 32767 - 50 * q as u16;
-        *phase = (q as i32 * 300 % 65536 - 32768) as i16;
+    for q in 0..513u16 {
+        amplitudes[usize::from(q)] = 32767 - 50 * q;
+        phases[usize::from(q)] = (i32::from(q) * 300 % 65536 - 32768) as i16;
     }
     settings.set_amplifier_table(&amplitudes, &phases)
 }
