@@ -17,9 +17,10 @@ use Rattle.wave.specs.declared.refusal.OpeningRefusal.{OpeningRefusal}
 use Rattle.wave.specs.declared.refusal.OpeningRefusal.TheVariants.{TooShort}
 use Rattle.wave.specs.Bytes.{u32_at}
 use Rattle.wave.specs.Chunks.{Test, tested, head, format_tests, data_tests, chunk, chunk_end, chunk_of, kind_at, chunks, from_step, find_data}
+use Rattle.wave.specs.Rates.{good_rate}
 use Rattle.recordings.specs.Items.{signal_item, part_of, item_at, before_fault, held_from}
 use Rattle.recordings.specs.Opening.{opened, signal_format, HandsOut}
-use Rattle.recorder.specs.Writing.{word, coded, size_of, recorded, good_rate}
+use Rattle.recorder.specs.Writing.{word, coded, size_of, recorded}
 use Rattle.recordings.proofs.Reading.{peeled}
 
 -- a part comes back from its word

@@ -9,9 +9,10 @@ use Rattle.recorder.specs.declared.refusal.WritingRefusal.{WritingRefusal}
 use Rattle.recorder.specs.declared.refusal.WritingRefusal.TheVariants.{Buffer, Rate}
 use Rattle.recorder.specs.declared.started.StartedRecording.{StartedRecording}
 use Rattle.wave.specs.Bytes.{overwrite}
+use Rattle.wave.specs.Rates.{good_rate}
 use Rattle.recordings.specs.Opening.{HandsOut, signal_opening}
 use Rattle.recorder.specs.Sessions.{room, taken, after_record, ComesBack}
-use Rattle.recorder.specs.Writing.{header, coded, size_of, recorded, good_rate, good_buffer, fits, sized, start_answer, after_start, after_finish}
+use Rattle.recorder.specs.Writing.{header, coded, size_of, recorded, good_buffer, fits, sized, start_answer, after_start, after_finish}
 use Rattle.recorder.proofs.Back.{coded_length, recorded_length, hands_out}
 use Rattle.recorder.proofs.Overwriting.{take-overwrite, overwrite_more, overwrite_length}
 

@@ -6,11 +6,12 @@ use Rattle.wave.specs.declared.refusal.OpeningRefusal.{OpeningRefusal}
 use Rattle.recorder.specs.declared.refusal.RewritingRefusal.{RewritingRefusal}
 use Rattle.recorder.specs.declared.refusal.RewritingRefusal.TheVariants.{Opening, Writing}
 use Rattle.recorder.specs.declared.refusal.WritingRefusal.{WritingRefusal}
-use Rattle.recorder.specs.declared.refusal.WritingRefusal.TheVariants.{Buffer, Full, Rate}
+use Rattle.recorder.specs.declared.refusal.WritingRefusal.TheVariants.{Full}
 use Rattle.recorder.specs.declared.session.Part.{Part}
 use Rattle.wave.specs.Bytes.{overwrite}
+use Rattle.wave.specs.Rates.{good_rate}
 use Rattle.recordings.specs.Opening.{Opened, HandsOut}
-use Rattle.recorder.specs.Writing.{size_of, recorded, good_rate, good_buffer, fits}
+use Rattle.recorder.specs.Writing.{size_of, recorded, good_buffer, fits, accepting}
 
 -- how many samples a buffer of len bytes has room for
 abbrev pub room : ℕ → ℕ
@@ -32,7 +33,7 @@ abbrev pub part_of : ℕ → Stream ConverterSample → Part
 part_of n s = record { length = size_of (taken n s); samples = taken n s; ending = met n s }
 
 abbrev pub record_answer : ℕ → ℕ → Stream ConverterSample → Result Part WritingRefusal
-record_answer len rate s = cond (good_rate rate) (cond (good_buffer len) (Ok (part_of (room len) s)) (Err Buffer)) (Err Rate)
+record_answer len rate s = accepting len rate (Ok (part_of (room len) s))
 
 -- the buffer and the source after it
 abbrev pub after_record : List ℕ → ℕ → Stream ConverterSample → List ℕ
@@ -47,7 +48,7 @@ ComesBack len rate s after = HandsOut (take (size_of (taken (room len) s)) after
 
 -- Writing a list of samples whole: refused as a start is, and where they do not fit. Then nothing changes.
 abbrev pub write_answer : ℕ → ℕ → ℕ → Result ℕ WritingRefusal
-write_answer len rate n = cond (good_rate rate) (cond (good_buffer len) (cond (fits len n) (Ok (size_of n)) (Err Full)) (Err Buffer)) (Err Rate)
+write_answer len rate n = accepting len rate (cond (fits len n) (Ok (size_of n)) (Err Full))
 
 abbrev pub after_write : List ℕ → ℕ → List ConverterSample → List ℕ
 after_write b rate xs = cond (accepted (length b) rate && fits (length b) (length xs)) (overwrite 0 (recorded rate xs) b) b

@@ -6,6 +6,7 @@ use Rattle.recorder.specs.declared.refusal.WritingRefusal.{WritingRefusal}
 use Rattle.recorder.specs.declared.refusal.WritingRefusal.TheVariants.{Buffer, Full, Rate}
 use Rattle.recorder.specs.declared.started.StartedRecording.{StartedRecording}
 use Rattle.wave.specs.Bytes.{le16, le32, overwrite}
+use Rattle.wave.specs.Rates.{good_rate}
 use Rattle.recordings.specs.Opening.{HandsOut}
 
 -- the 44 bytes before the samples, with the size of what follows the first 8 bytes, and of the samples
@@ -36,9 +37,6 @@ recorded rate xs = header rate (size_of (length xs) - 8) (4 * length xs) ++ flat
 abbrev pub Holds : List ℕ → ℕ → List ConverterSample → Type 0
 Holds b rate xs = take (size_of (length xs)) b ≡ header rate 0 0 ++ flat_map coded xs
 
-abbrev pub good_rate : ℕ → Bool
-good_rate rate = nat_le 1 rate && nat_le rate 100000000
-
 abbrev pub good_buffer : ℕ → Bool
 good_buffer len = nat_le 44 len && nat_le len 65536
 
@@ -46,13 +44,16 @@ good_buffer len = nat_le 44 len && nat_le len 65536
 abbrev pub fits : ℕ → ℕ → Bool
 fits len n = nat_le (size_of n) len && nat_le (size_of n) 65536
 
--- a rate and a buffer of len bytes are accepted; the rate is tested first
+-- the answer where a rate and a buffer of len bytes are accepted, else the refusal; the rate is tested first
+abbrev pub accepting : {X : Type 0} → ℕ → ℕ → Result X WritingRefusal → Result X WritingRefusal
+accepting len rate answer = cond (good_rate rate) (cond (good_buffer len) answer (Err Buffer)) (Err Rate)
+
 abbrev pub accept_answer : ℕ → ℕ → Result (Unit {0}) WritingRefusal
-accept_answer len rate = cond (good_rate rate) (cond (good_buffer len) (Ok tt) (Err Buffer)) (Err Rate)
+accept_answer len rate = accepting len rate (Ok tt)
 
 -- start
 abbrev pub start_answer : ℕ → ℕ → Result StartedRecording WritingRefusal
-start_answer len rate = cond (good_rate rate) (cond (good_buffer len) (Ok (record { samples = 0 })) (Err Buffer)) (Err Rate)
+start_answer len rate = accepting len rate (Ok (record { samples = 0 }))
 
 abbrev pub after_start : List ℕ → ℕ → List ℕ
 after_start b rate = cond (good_rate rate && good_buffer (length b)) (overwrite 0 (header rate 0 0) b) b

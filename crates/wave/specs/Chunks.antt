@@ -1,5 +1,5 @@
 -- Opening, up to the data: the tests in byte order, and what the first that fails answers.
-use Rattle.std.specs.Prelude.{ℕ, zero, suc, ◌+◌, ◌*◌, ◌%◌, Bool, cond, ◌&&◌, List, [], ◌∷◌, length, Some, None, Ok, Err, codes, Option, Result, ◌==◌, nat_le}
+use Rattle.std.specs.Prelude.{ℕ, zero, suc, ◌+◌, ◌*◌, ◌%◌, Bool, cond, List, [], ◌∷◌, length, Some, None, Ok, Err, codes, Option, Result, ◌==◌, nat_le}
 use Rattle.wave.specs.declared.format.Format.{Format}
 use Rattle.wave.specs.declared.chunks.ChunkKind.{ChunkKind}
 use Rattle.wave.specs.declared.chunks.ChunkKind.TheVariants as kinds
@@ -11,6 +11,7 @@ use Rattle.wave.specs.declared.refusal.OpeningRefusal.TheVariants.{TooShort, Wro
 use Rattle.wave.specs.declared.refusal.HeadField.TheVariants.{Riff, Length, Wave}
 use Rattle.wave.specs.declared.refusal.Field.TheVariants.{FormatSize, Tag, Channels, Rate, ByteRate, Align, Bits, DataSize}
 use Rattle.wave.specs.Bytes.{u16_at, u32_at}
+use Rattle.wave.specs.Rates.{good_rate}
 
 -- a mark of four letters, as the number that its bytes make
 abbrev pub mark : List ℕ → ℕ
@@ -58,7 +59,7 @@ abbrev pub field_tests : Format → List ℕ → ℕ → List Test
 field_tests f b s =
     (u16_at b (s + 8) == 1, WrongField Tag (s + 8))
     ∷ (u16_at b (s + 10) == f.channels, WrongField Channels (s + 10))
-    ∷ (nat_le 1 (u32_at b (s + 12)) && nat_le (u32_at b (s + 12)) 100000000, WrongField Rate (s + 12))
+    ∷ (good_rate (u32_at b (s + 12)), WrongField Rate (s + 12))
     ∷ (u32_at b (s + 16) == u32_at b (s + 12) * f.align, WrongField ByteRate (s + 16))
     ∷ (u16_at b (s + 20) == f.align, WrongField Align (s + 20))
     ∷ (u16_at b (s + 22) == f.bits, WrongField Bits (s + 22))

@@ -1,3 +1,4 @@
 pub mod Bytes
 pub mod Chunks
+pub mod Rates
 pub mod Refusals
