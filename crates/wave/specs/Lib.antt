@@ -1,4 +1,5 @@
 pub mod Bytes
 pub mod Chunks
 pub mod Rates
+pub mod Reaching
 pub mod Refusals

@@ -3,6 +3,7 @@ ghost use Rattle.std.specs.Prelude.{◌≡◌, ◌+◌, ◌^◌, ◌<◌, ◌≤
 ghost use Rattle.wave.specs.Bytes.{u16_at, u32_at};
 ghost use Rattle.wave.specs.declared.refusal.OpeningRefusal.TheVariants.{TooShort, WrongField};
 ghost use Rattle.wave.specs.Chunks.{mark, kind_at, size_at, chunk_end, tested, head, field_tests, complete, chunk_of, chunk, chunks, find_data};
+ghost use Rattle.wave.specs.Reaching.{Reached, Stopped};
 
 use crate::bytes::{u16_at, u32_at};
 use crate::format::{Format, MAX_RATE};
@@ -217,6 +218,8 @@ fn walk(bytes: &[u8], format: Format) -> Result<Found, OpeningRefusal>
 // Where the data of a recording of this format stands in the bytes, and the rate.
 pub fn find_data(bytes: &[u8], format: Format) -> Result<Found, OpeningRefusal>
     ensures answer { result ≡ find_data format bytes.now }
+    ensures found { IfOk result (Reached format bytes.now) }
+    ensures refused { IfErr result (Stopped format bytes.now) }
     ensures inside { IfOk result (λ found. found.start + found.size ≤ length bytes.now) }
 {
     check_head(bytes)?;
