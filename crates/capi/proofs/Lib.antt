@@ -1,2 +1,3 @@
 mod Listening
+mod Settling
 mod Texts

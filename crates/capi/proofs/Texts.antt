@@ -4,8 +4,8 @@ use Rattle.std.specs.Result.{IsErrAnd}
 use Rattle.capi.specs.declared.refusal.Refusal.{Refusal}
 use Rattle.capi.specs.declared.refusal.Refusal.TheVariants.{Opening, Setting, UnknownKind, WrongLine, Memory, Room}
 use Rattle.capi.specs.declared.written.Transcript.{Transcript}
-use Rattle.capi.specs.Playing.{OfText}
 use Rattle.capi.specs.Replaying.{Tells}
+use Rattle.capi.specs.Texts.{OfText}
 
 pub text_tells : (signal gain : List ℕ) (e : Refusal) → OfText e → Tells signal gain (Err e)
 text_tells signal gain (Setting line e) h = tt

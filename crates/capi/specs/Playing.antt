@@ -1,10 +1,9 @@
 -- The standard chain, played over two recordings.
-use Rattle.std.specs.Prelude.{◌≡◌, ℕ, List, [], length, Ok, Err, Result}
+use Rattle.std.specs.Prelude.{◌≡◌, ℕ, List, length, Ok, Err, Result}
 use Rattle.samples.specs.declared.converter.ConverterSample.{ConverterSample}
 use Rattle.samples.specs.declared.gain_index.GainIndex.{GainIndex}
 use Rattle.source.specs.Streams.{Stream}
 use Rattle.stages.specs.Wholes.{each}
-use Rattle.link.specs.Fresh.{fresh}
 use Rattle.link.specs.declared.settings.Settings.{Settings}
 use Rattle.chain.specs.Chains.{played}
 use Rattle.player.specs.Plain.{plain_buffer}
@@ -12,11 +11,12 @@ use Rattle.wave.specs.declared.refusal.OpeningRefusal.{OpeningRefusal}
 use Rattle.recordings.specs.Opening.{Opened, signal_opening, gain_opening}
 use Rattle.capi.specs.declared.refusal.Input.TheVariants.{Signal, Gain}
 use Rattle.capi.specs.declared.refusal.Refusal.{Refusal}
-use Rattle.capi.specs.declared.refusal.Refusal.TheVariants.{Opening, Setting, UnknownKind, WrongLine, Memory, Room}
+use Rattle.capi.specs.declared.refusal.Refusal.TheVariants.{Opening}
 use Rattle.capi.specs.declared.iq.Iq.{Iq}
 use Rattle.capi.specs.declared.report.Report.{Report}
 use Rattle.capi.specs.Hearing.{heard_of}
 use Rattle.capi.specs.Reports.{heard_report, input_number, status, told}
+use Rattle.capi.specs.Texts.{Settles}
 
 -- the two parts of a sample
 abbrev pub parts : ConverterSample → Iq
@@ -46,24 +46,6 @@ play_answer (Ok s) signal gain n = play_opened s (signal_opening (input_number S
 abbrev pub after_play : Result Settings Refusal → List ℕ → List ℕ → List Iq → List Iq
 after_play (Err e) signal gain out = out
 after_play (Ok s) signal gain out = after_opened s (signal_opening (input_number Signal) signal) (gain_opening (input_number Gain) gain) out
-
--- a text is refused for one of its lines, or for want of memory
-abbrev pub OfText : Refusal → Type 0
-OfText (Setting line e) = Unit {0}
-OfText (WrongLine input line) = Unit {0}
-OfText Memory = Unit {0}
-OfText (Opening input e) = ⊥
-OfText UnknownKind = ⊥
-OfText (Room needed) = ⊥
-
-abbrev pub RefusedByText : {A : Type 0} → Result A Refusal → Type 0
-RefusedByText (Ok x) = Unit {0}
-RefusedByText (Err e) = OfText e
-
--- what is known of the settings that a text makes: the empty text makes fresh ones
-pub record Settles (text : List ℕ) (settings : Result Settings Refusal) : Type 0 where
-  pub empty : text ≡ [] → settings ≡ Ok fresh
-  pub refused : RefusedByText settings
 
 -- A call that plays answers and leaves its buffer as the formulas have it, for the settings that the text makes.
 pub record PlaysChain (text signal gain : List ℕ) (out after : List Iq) (report : Report) (answer : ℕ) : Type 0 where

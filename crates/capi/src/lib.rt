@@ -2,7 +2,7 @@
 //
 // Proved: for every argument, the status and the report that come back and what the caller's buffer holds then; refused
 // calls leave the buffer as it was. What is played is the whole that the formulas define from the settings and the bytes
-// of the two recordings. Which settings a text makes is promised for the empty text alone, which makes fresh ones.
+// of the two recordings. The settings are those that the lines of a text make of fresh ones, in order.
 #![tactic(auto)]
 
 mod hearing;

@@ -1,7 +1,7 @@
 // Making calls on a player of the standard chain, each answered by a line of text.
 ghost use Rattle.std.specs.Prelude.{◌≡◌, length};
-ghost use Rattle.capi.specs.Playing.{RefusedByText};
 ghost use Rattle.capi.specs.Replaying.{Tells, put_answer, after_put, replay_answer, after_replay, Replays};
+ghost use Rattle.capi.specs.Texts.{RefusedByText};
 
 use crate::refusal::{Input, Refusal, conclude};
 use crate::report::{Heard, Report};

@@ -1,5 +1,6 @@
 // The settings that a text makes.
-ghost use Rattle.capi.specs.Playing.{OfText, Settles};
+ghost use Rattle.std.specs.Prelude.{◌≡◌};
+ghost use Rattle.capi.specs.Texts.{OfText, Settles, stopped_at};
 
 use crate::refusal::{Input, Refusal};
 use lines::fault::Wrong;
@@ -10,7 +11,8 @@ use std::alloc::Global;
 
 // Why a text stops: the first line of it that is wrong or refused.
 pub(crate) fn refusal_of(input: Input, fault: LineFault) -> Refusal
-    ensures { OfText result }
+    ensures of_text { OfText result }
+    ensures stopped { result ≡ stopped_at input fault.line fault.stop }
 {
     let line = fault.line;
     match fault.stop {
@@ -23,8 +25,5 @@ pub(crate) fn refusal_of(input: Input, fault: LineFault) -> Refusal
 pub(crate) fn settings_of(heap: Global, text: &[u8]) -> Result<Settings, Refusal>
     ensures { Settles text.now result }
 {
-    if text.is_empty() {
-        return Ok(Settings::fresh());
-    }
     reader::read(heap, text).map_err(|fault| refusal_of(Input::Settings, fault))
 }

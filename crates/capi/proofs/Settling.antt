@@ -1,0 +1,49 @@
+-- What reading a text of settings answers, told as a refusal.
+use Rattle.std.proofs.Common.{◌≡◌, ℕ, List, [], ◌∷◌, ◌++◌, Result, Ok, Err, MatchResult, refl, sym, ap, ◌∙◌, subst}
+use Rattle.std.specs.List.{AllZip}
+use Rattle.std.specs.Result.{IsErrAnd}
+use Rattle.lines.specs.Entries.{Holds, entries_of}
+use Rattle.lines.specs.declared.numbered.Numbered.{Numbered}
+use Rattle.link.specs.Fresh.{fresh}
+use Rattle.link.specs.declared.settings.Settings.{Settings}
+use Rattle.settings_file.specs.Files.{Makes, Stops, changed_by}
+use Rattle.settings_file.specs.Forms.{Says}
+use Rattle.settings_file.specs.declared.fault.LineFault.{LineFault}
+use Rattle.settings_file.specs.declared.setting.Setting.{Setting}
+use Rattle.capi.specs.declared.refusal.Input.TheVariants as inputs
+use Rattle.capi.specs.declared.refusal.Refusal.{Refusal}
+use Rattle.capi.specs.Texts.{MakesSettings, OfText, RefusedByText, Settles, stopped_at}
+
+none_said : (said : List (Numbered Setting)) → AllZip (Holds Says) [] said → said ≡ []
+none_said [] h = refl
+none_said (one ∷ more) h = absurd h
+
+no_entry : {A : Type 0} (before after : List A) (entry : A) → [] ≡ before ++ entry ∷ after → ⊥
+no_entry [] after entry h = cc
+no_entry (x ∷ xs) after entry h = cc
+
+-- the empty text has no entries: it says no setting, and none of its lines stops it
+made_of_none : (made : Settings) → Makes (entries_of []) fresh made → made ≡ fresh
+made_of_none made h = h.made_is ∙ ap (λ said. changed_by said fresh) (none_said h.said h.hold)
+
+never_stopped : (fault : LineFault) → Stops (entries_of []) fault → ⊥
+never_stopped fault h = no_entry h.before h.after h.entry h.entries_are
+
+of_no_text : (r : Result Settings Refusal) → MakesSettings [] r → r ≡ Ok fresh
+of_no_text (Ok made) h = ap Ok (made_of_none made h)
+of_no_text (Err refusal) h = absurd (never_stopped h.fault h.stops)
+
+settled : (text : List ℕ) (r : Result Settings Refusal) → RefusedByText r → MakesSettings text r → Settles text r
+settled text r refused makes = record { empty = λ none. of_no_text r (subst (λ t. MakesSettings t r) none makes); refused = refused; makes = makes }
+
+-- settings that were read, or the refusal that tells the fault
+pub settles : {Told : LineFault → Refusal → Type 0} (text : List ℕ) (read : Result Settings LineFault) (r : Result Settings Refusal)
+    → MatchResult read (Makes (entries_of text) fresh) (Stops (entries_of text))
+    → MatchResult read (λ made. r ≡ Ok made) (λ fault. IsErrAnd r (Told fault))
+    → ((fault : LineFault) (e : Refusal) → Told fault e → OfText e × (e ≡ stopped_at inputs.Settings fault.line fault.stop))
+    → Settles text r
+settles text (Ok made) r makes told tells = subst (Settles text) (sym told) (settled text (Ok made) tt makes)
+settles text (Err fault) (Ok made) stops told tells = absurd told
+settles text (Err fault) (Err e) stops told tells =
+    let t = tells fault e told in
+    settled text (Err e) t.0 (record { fault = fault; stops = stops; refusal_is = t.1 })

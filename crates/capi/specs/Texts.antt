@@ -1,0 +1,50 @@
+-- What a text makes, or which of its lines stops it.
+use Rattle.std.specs.Prelude.{◌≡◌, ℕ, List, [], Ok, Err, Result}
+use Rattle.lines.specs.Entries.{entries_of}
+use Rattle.lines.specs.declared.fault.Wrong.TheVariants as wrongs
+use Rattle.link.specs.Fresh.{fresh}
+use Rattle.link.specs.declared.settings.Settings.{Settings}
+use Rattle.settings_file.specs.Files.{Makes, Stops}
+use Rattle.settings_file.specs.declared.fault.LineFault.{LineFault}
+use Rattle.settings_file.specs.declared.fault.Stop.{Stop}
+use Rattle.settings_file.specs.declared.fault.Stop.TheVariants.{Wrong, Refused}
+use Rattle.capi.specs.declared.refusal.Input.{Input}
+use Rattle.capi.specs.declared.refusal.Input.TheVariants as inputs
+use Rattle.capi.specs.declared.refusal.Refusal.{Refusal}
+use Rattle.capi.specs.declared.refusal.Refusal.TheVariants.{Opening, Setting, UnknownKind, WrongLine, Memory, Room}
+
+-- a text is refused for one of its lines, or for want of memory
+abbrev pub OfText : Refusal → Type 0
+OfText (Setting line e) = Unit {0}
+OfText (WrongLine input line) = Unit {0}
+OfText Memory = Unit {0}
+OfText (Opening input e) = ⊥
+OfText UnknownKind = ⊥
+OfText (Room needed) = ⊥
+
+abbrev pub RefusedByText : {A : Type 0} → Result A Refusal → Type 0
+RefusedByText (Ok x) = Unit {0}
+RefusedByText (Err e) = OfText e
+
+-- the refusal of a text that this line of it stops
+abbrev pub stopped_at : Input → ℕ → Stop → Refusal
+stopped_at input line (Refused e) = Setting line e
+stopped_at input line (Wrong wrongs.Memory) = Memory
+stopped_at input line (Wrong _) = WrongLine input line
+
+-- A text of settings is refused for its first line that is wrong or refused.
+pub record StopsText (text : List ℕ) (refusal : Refusal) : Type 0 where
+  pub fault : LineFault
+  pub stops : Stops (entries_of text) fault
+  pub refusal_is : refusal ≡ stopped_at inputs.Settings fault.line fault.stop
+
+-- the settings are those that the entries of the text make of fresh ones, in order
+abbrev pub MakesSettings : List ℕ → Result Settings Refusal → Type 0
+MakesSettings text (Ok settings) = Makes (entries_of text) fresh settings
+MakesSettings text (Err refusal) = StopsText text refusal
+
+-- What a text of settings makes. The empty text makes fresh settings, whatever memory there is.
+pub record Settles (text : List ℕ) (settings : Result Settings Refusal) : Type 0 where
+  pub empty : text ≡ [] → settings ≡ Ok fresh
+  pub refused : RefusedByText settings
+  pub makes : MakesSettings text settings
