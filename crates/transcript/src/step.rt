@@ -1,6 +1,7 @@
 // Files of calls: `next`, `fill N`, `skip N` or `rewind`, one a line.
-ghost use Rattle.std.specs.Prelude.{◌≡◌, map, IfOk};
+ghost use Rattle.std.specs.Prelude.{◌≡◌, map, IfOk, Some};
 ghost use Rattle.player.specs.Calls.{asked};
+ghost use Rattle.transcript.specs.Answers.{step_text};
 ghost use Rattle.transcript.specs.Steps.{call_of, Says, Complains};
 
 use lines::entries::Form;
@@ -72,6 +73,8 @@ impl Form for Step {
 
 // As the line that it was read from.
 impl fmt::Display for Step {
+    ghost output = { λ step. Some (step_text step) };
+
     fn fmt<W: fmt::Write>(&self, f: &mut fmt::Formatter<W>) -> fmt::Result {
         match self {
             Step::Next => write!(f, "next"),
