@@ -1,5 +1,11 @@
--- What a run tells in text.
-use Rattle.std.specs.Prelude.{ℕ, List, ◌++◌, codes, decimal}
+-- What a run tells in text: a line for each step, with its answer.
+use Rattle.std.specs.Prelude.{ℕ, List, [], ◌∷◌, ◌++◌, take, Some, None, Ok, Err, Option, codes, decimal, flat_map}
+use Rattle.std.specs.Fmt.{signed_decimal}
+use Rattle.samples.specs.declared.converter.ConverterSample.{ConverterSample}
+use Rattle.source.specs.Faults.{fault_number}
+use Rattle.player.specs.Calls.{Told, item, filled, skipped, rewound}
+use Rattle.player.specs.declared.fault.PlayerFault.{PlayerFault}
+use Rattle.lines.specs.declared.numbered.Numbered.{Numbered}
 use Rattle.transcript.specs.declared.step.Step.{Step}
 use Rattle.transcript.specs.declared.step.Step.TheVariants.{Next, Fill, Skip, Rewind}
 
@@ -9,3 +15,48 @@ step_text Next = codes "next"
 step_text (Fill n) = codes "fill " ++ decimal n
 step_text (Skip n) = codes "skip " ++ decimal n
 step_text Rewind = codes "rewind"
+
+-- a sample: its real part, then its imaginary part
+abbrev pub sample_text : ConverterSample → List ℕ
+sample_text x = signed_decimal x.re ++ (codes " " ++ signed_decimal x.im)
+
+-- what next found
+abbrev pub item_text : Option ConverterSample → List ℕ
+item_text None = codes "no item"
+item_text (Some x) = codes "item " ++ sample_text x
+
+-- a sample behind a count, or behind another sample
+abbrev pub placed_text : ConverterSample → List ℕ
+placed_text x = codes "; " ++ sample_text x
+
+-- what a fill placed in its buffer: how many samples, then each of them
+abbrev pub filled_text : ℕ → List ConverterSample → List ℕ
+filled_text count buffer = decimal count ++ flat_map placed_text (take count buffer)
+
+-- the player's fault: its number, the input that has it, the item there, and the place
+abbrev pub fault_text : PlayerFault → List ℕ
+fault_text f =
+    codes "fault " ++ (decimal (fault_number f.fault.kind) ++ (codes " input " ++ (decimal f.fault.input ++ (codes " item " ++ (decimal f.fault.item ++ (codes " place " ++ decimal f.place))))))
+
+abbrev pub told_text : Told ConverterSample → List ℕ
+told_text (item (Ok found)) = item_text found
+told_text (item (Err f)) = fault_text f
+told_text (filled (Ok count) buffer) = filled_text count buffer
+told_text (filled (Err f) buffer) = fault_text f
+told_text (skipped (Ok count)) = decimal count
+told_text (skipped (Err f)) = fault_text f
+told_text rewound = codes "done"
+
+-- a step and its answer
+abbrev pub answer_text : Step → Told ConverterSample → List ℕ
+answer_text step answer = step_text step ++ (codes ": " ++ told_text answer)
+
+-- the byte that ends a line
+abbrev pub feed : ℕ
+feed = 10
+
+-- all steps with their answers, each in a line of its own
+abbrev pub answer_lines : List (Numbered Step) → List (Told ConverterSample) → List ℕ
+answer_lines [] answers = []
+answer_lines (step ∷ steps) [] = []
+answer_lines (step ∷ steps) (answer ∷ answers) = (answer_text step.held answer ++ feed ∷ []) ++ answer_lines steps answers

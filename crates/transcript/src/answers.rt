@@ -1,7 +1,13 @@
 // What a player answered, in text.
+ghost use Rattle.std.specs.Prelude.{Some, map};
+ghost use Rattle.std.specs.Fmt.{WritesOnOk};
+ghost use Rattle.player.specs.Calls.{told};
+ghost use Rattle.transcript.specs.Answers.{answer_lines, answer_text, fault_text, filled_text, item_text};
+
 use crate::step::Step;
 use lines::numbered::Numbered;
 use player::calls::Answer;
+use player::fault::PlayerFault;
 use samples::converter::ConverterSample;
 use std::fmt;
 
@@ -16,7 +22,9 @@ pub struct AnswerLine<'a> {
 fn write_item<W: fmt::Write>(
     f: &mut fmt::Formatter<W>,
     item: &Option<ConverterSample>,
-) -> fmt::Result {
+) -> fmt::Result
+    ensures { WritesOnOk W.write_str_gives f.old result (item_text item.now) f.new }
+{
     match item {
         Some(sample) => {
             let re = sample.re;
@@ -32,7 +40,9 @@ fn write_filled<W: fmt::Write>(
     f: &mut fmt::Formatter<W>,
     count: usize,
     buffer: &[ConverterSample],
-) -> fmt::Result {
+) -> fmt::Result
+    ensures { WritesOnOk W.write_str_gives f.old result (filled_text count buffer.now) f.new }
+{
     write!(f, "{count}")?;
     for sample in buffer.iter().take(count) {
         let re = sample.re;
@@ -42,7 +52,20 @@ fn write_filled<W: fmt::Write>(
     Ok(())
 }
 
+// From its numbers: the words of its own `Display` promise no text.
+fn write_fault<W: fmt::Write>(f: &mut fmt::Formatter<W>, fault: &PlayerFault) -> fmt::Result
+    ensures { WritesOnOk W.write_str_gives f.old result (fault_text fault.now) f.new }
+{
+    let number = fault.fault.kind.number();
+    let input = fault.fault.input;
+    let item = fault.fault.item;
+    let place = fault.place;
+    write!(f, "fault {number} input {input} item {item} place {place}")
+}
+
 impl<'a> fmt::Display for AnswerLine<'a> {
+    ghost output = { λ line. Some (answer_text line.step (told line.answer.now)) };
+
     fn fmt<W: fmt::Write>(&self, f: &mut fmt::Formatter<W>) -> fmt::Result {
         let step = self.step;
         write!(f, "{step}: ")?;
@@ -53,7 +76,7 @@ impl<'a> fmt::Display for AnswerLine<'a> {
             Answer::Rewound => write!(f, "done"),
             Answer::Item(Err(fault))
             | Answer::Filled(Err(fault), _)
-            | Answer::Skipped(Err(fault)) => write!(f, "{fault}"),
+            | Answer::Skipped(Err(fault)) => write_fault(f, fault),
         }
     }
 }
@@ -67,6 +90,8 @@ pub struct AnswerLines<'a> {
 }
 
 impl<'a> fmt::Display for AnswerLines<'a> {
+    ghost output = { λ all. Some (answer_lines all.steps.now (map told all.answers.now)) };
+
     fn fmt<W: fmt::Write>(&self, f: &mut fmt::Formatter<W>) -> fmt::Result {
         for (step, answer) in self.steps.iter().zip(self.answers) {
             let line = AnswerLine {
