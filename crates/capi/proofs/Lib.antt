@@ -1,3 +1,3 @@
 mod Listening
 mod Settling
-mod Texts
+mod Handing

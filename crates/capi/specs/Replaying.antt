@@ -1,37 +1,57 @@
 -- A text of answers, put into the caller's buffer.
-use Rattle.std.specs.Prelude.{◌≡◌, ℕ, cond, List, length, None, Ok, Err, string_bytes, Result, nat_le}
+use Rattle.std.specs.Prelude.{◌≡◌, ℕ, cond, List, length, map, None, Ok, Err, string_bytes, Result, nat_le}
+use Rattle.samples.specs.declared.converter.ConverterSample.{ConverterSample}
+use Rattle.samples.specs.declared.gain_index.GainIndex.{GainIndex}
+use Rattle.source.specs.Streams.{Stream}
+use Rattle.link.specs.declared.settings.Settings.{Settings}
+use Rattle.chain.specs.Chains.{played}
+use Rattle.player.specs.Plain.{plain_run}
+use Rattle.lines.specs.declared.numbered.Numbered.{Numbered}
+use Rattle.transcript.specs.Answers.{answer_lines}
+use Rattle.transcript.specs.Steps.{call_of}
+use Rattle.transcript.specs.declared.step.Step.{Step}
 use Rattle.wave.specs.Bytes.{overwrite}
 use Rattle.wave.specs.declared.refusal.OpeningRefusal.{OpeningRefusal}
-use Rattle.recordings.specs.Opening.{Opened, signal_opening, gain_opening}
-use Rattle.capi.specs.declared.refusal.Input.{Input}
-use Rattle.capi.specs.declared.refusal.Input.TheVariants.{Signal, Gain, Settings, Calls}
+use Rattle.recordings.specs.Opening.{Opened}
+use Rattle.recordings.specs.Pair.{link_opening}
+use Rattle.recordings.specs.declared.pair.Input as pair
 use Rattle.capi.specs.declared.refusal.Refusal.{Refusal}
-use Rattle.capi.specs.declared.refusal.Refusal.TheVariants.{Opening, Setting, UnknownKind, WrongLine, Memory, Room}
+use Rattle.capi.specs.declared.refusal.Refusal.TheVariants.{Memory, Room}
 use Rattle.capi.specs.declared.report.Report.{Report}
 use Rattle.capi.specs.declared.written.Transcript.{Transcript}
-use Rattle.capi.specs.Reports.{items_report, input_number, status, told}
+use Rattle.capi.specs.Reports.{items_report, opening_of, status, told}
+use Rattle.capi.specs.Texts.{SaysSteps, Settles}
 
--- the rate of what was opened
-abbrev pub rate_of : {T : Type 0} → Result (Opened T) OpeningRefusal → Result ℕ OpeningRefusal
-rate_of (Ok o) = Ok o.rate
-rate_of (Err e) = Err e
+-- the lines that tell what the plain player of a whole answers to the steps
+abbrev pub run_text : Stream ConverterSample → List (Numbered Step) → List ℕ
+run_text w steps = answer_lines steps (plain_run w 0 (map (λ step. call_of step.held) steps))
 
--- an input that was refused is refused as its bytes define
-abbrev pub RefusedAs : Input → OpeningRefusal → List ℕ → List ℕ → Type 0
-RefusedAs Signal e signal gain = rate_of (signal_opening (input_number Signal) signal) ≡ Err e
-RefusedAs Gain e signal gain = rate_of (gain_opening (input_number Gain) gain) ≡ Err e
-RefusedAs Settings e signal gain = ⊥
-RefusedAs Calls e signal gain = ⊥
+-- these bytes are written, at the rate; or there was no memory for them
+abbrev pub Writes : ℕ → List ℕ → Result Transcript Refusal → Type 0
+Writes rate text (Ok t) = (t.rate ≡ rate) × (string_bytes t.text ≡ text)
+Writes rate text (Err e) = e ≡ Memory
 
--- a text tells of recordings that both open, at the signal's rate; a recording is refused as its bytes define
-abbrev pub Tells : List ℕ → List ℕ → Result Transcript Refusal → Type 0
-Tells signal gain (Ok t) = (rate_of (signal_opening (input_number Signal) signal) ≡ Ok t.rate) × ((rate : ℕ) × (rate_of (gain_opening (input_number Gain) gain) ≡ Ok rate))
-Tells signal gain (Err (Opening input e)) = RefusedAs input e signal gain
-Tells signal gain (Err (Setting line e)) = Unit {0}
-Tells signal gain (Err UnknownKind) = ⊥
-Tells signal gain (Err (WrongLine input line)) = Unit {0}
-Tells signal gain (Err Memory) = Unit {0}
-Tells signal gain (Err (Room needed)) = ⊥
+-- the steps over both recordings, opened
+abbrev pub TellsOpened : Settings → List (Numbered Step) → Result (Opened ConverterSample × Opened GainIndex) (pair.Input × OpeningRefusal) → Result Transcript Refusal → Type 0
+TellsOpened s steps (Err refused) t = t ≡ Err (opening_of refused)
+TellsOpened s steps (Ok both) t = Writes both.0.rate (run_text (played s both.0.whole both.1.whole) steps) t
+
+-- the steps that a text says, or why it says none
+abbrev pub TellsSteps : Settings → Result (List (Numbered Step)) Refusal → List ℕ → List ℕ → Result Transcript Refusal → Type 0
+TellsSteps s (Err e) signal gain t = t ≡ Err e
+TellsSteps s (Ok steps) signal gain t = TellsOpened s steps (link_opening signal gain) t
+
+-- the calls of a text under settings, or why there are no settings
+abbrev pub Tells : Result Settings Refusal → List ℕ → List ℕ → List ℕ → Result Transcript Refusal → Type 0
+Tells (Err e) calls signal gain t = t ≡ Err e
+Tells (Ok s) calls signal gain t = (steps : Result (List (Numbered Step)) Refusal) × SaysSteps calls steps × TellsSteps s steps signal gain t
+
+-- What the calls of one text tell, on the chain that the settings of another make: settings are tested first, then calls, then
+-- the signal, then the gain recording.
+pub record Replayed (settings calls signal gain : List ℕ) (transcript : Result Transcript Refusal) : Type 0 where
+  pub made : Result Settings Refusal
+  pub settled : Settles settings made
+  pub tells : Tells made calls signal gain transcript
 
 -- the text in a buffer of len bytes: its length, or how many bytes are needed
 abbrev pub put_answer : List ℕ → ℕ → Result ℕ Refusal
@@ -56,9 +76,9 @@ after_replay (Ok t) out = after_put (string_bytes t.text) out
 after_replay (Err e) out = out
 
 -- A call that replays puts one text into the buffer, whole, or leaves the buffer as it was.
-pub record Replays (signal gain out after : List ℕ) (report : Report) (answer : ℕ) : Type 0 where
+pub record Replays (settings calls signal gain out after : List ℕ) (report : Report) (answer : ℕ) : Type 0 where
   pub transcript : Result Transcript Refusal
-  pub tells : Tells signal gain transcript
+  pub replayed : Replayed settings calls signal gain transcript
   pub status_is : answer ≡ status (replay_answer transcript (length out))
   pub report_is : report ≡ told (replay_answer transcript (length out))
   pub buffer_is : after ≡ after_replay transcript out

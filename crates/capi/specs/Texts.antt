@@ -1,13 +1,18 @@
 -- What a text makes, or which of its lines stops it.
 use Rattle.std.specs.Prelude.{◌≡◌, ℕ, List, [], Ok, Err, Result}
-use Rattle.lines.specs.Entries.{entries_of}
+use Rattle.std.specs.List.{AllZip}
+use Rattle.lines.specs.Entries.{FirstWrong, Holds, entries_of}
+use Rattle.lines.specs.declared.fault.Wrong as faults
 use Rattle.lines.specs.declared.fault.Wrong.TheVariants as wrongs
+use Rattle.lines.specs.declared.numbered.Numbered.{Numbered}
 use Rattle.link.specs.Fresh.{fresh}
 use Rattle.link.specs.declared.settings.Settings.{Settings}
 use Rattle.settings_file.specs.Files.{Makes, Stops}
 use Rattle.settings_file.specs.declared.fault.LineFault.{LineFault}
 use Rattle.settings_file.specs.declared.fault.Stop.{Stop}
 use Rattle.settings_file.specs.declared.fault.Stop.TheVariants.{Wrong, Refused}
+use Rattle.transcript.specs.Steps.{Says, Complains}
+use Rattle.transcript.specs.declared.step.Step.{Step}
 use Rattle.capi.specs.declared.refusal.Input.{Input}
 use Rattle.capi.specs.declared.refusal.Input.TheVariants as inputs
 use Rattle.capi.specs.declared.refusal.Refusal.{Refusal}
@@ -33,7 +38,7 @@ stopped_at input line (Wrong wrongs.Memory) = Memory
 stopped_at input line (Wrong _) = WrongLine input line
 
 -- A text of settings is refused for its first line that is wrong or refused.
-pub record StopsText (text : List ℕ) (refusal : Refusal) : Type 0 where
+pub record StopsSettings (text : List ℕ) (refusal : Refusal) : Type 0 where
   pub fault : LineFault
   pub stops : Stops (entries_of text) fault
   pub refusal_is : refusal ≡ stopped_at inputs.Settings fault.line fault.stop
@@ -41,10 +46,21 @@ pub record StopsText (text : List ℕ) (refusal : Refusal) : Type 0 where
 -- the settings are those that the entries of the text make of fresh ones, in order
 abbrev pub MakesSettings : List ℕ → Result Settings Refusal → Type 0
 MakesSettings text (Ok settings) = Makes (entries_of text) fresh settings
-MakesSettings text (Err refusal) = StopsText text refusal
+MakesSettings text (Err refusal) = StopsSettings text refusal
 
 -- What a text of settings makes. The empty text makes fresh settings, whatever memory there is.
 pub record Settles (text : List ℕ) (settings : Result Settings Refusal) : Type 0 where
   pub empty : text ≡ [] → settings ≡ Ok fresh
   pub refused : RefusedByText settings
   pub makes : MakesSettings text settings
+
+-- A text of calls is refused for its first line that is wrong, or for which there is no memory.
+pub record StopsCalls (text : List ℕ) (refusal : Refusal) : Type 0 where
+  pub wrong : Numbered faults.Wrong
+  pub first : FirstWrong Says Complains (entries_of text) wrong
+  pub refusal_is : refusal ≡ stopped_at inputs.Calls wrong.line (Wrong wrong.held)
+
+-- the steps are those that the entries of the text say, in order
+abbrev pub SaysSteps : List ℕ → Result (List (Numbered Step)) Refusal → Type 0
+SaysSteps text (Ok steps) = AllZip (Holds Says) (entries_of text) steps
+SaysSteps text (Err refusal) = StopsCalls text refusal

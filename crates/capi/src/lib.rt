@@ -2,7 +2,8 @@
 //
 // Proved: for every argument, the status and the report that come back and what the caller's buffer holds then; refused
 // calls leave the buffer as it was. What is played is the whole that the formulas define from the settings and the bytes
-// of the two recordings. The settings are those that the lines of a text make of fresh ones, in order.
+// of the two recordings. The settings are those that the lines of a text make of fresh ones, in order. What is replayed is
+// the line of each call that a text says, with its answer.
 #![tactic(auto)]
 
 mod hearing;

@@ -1,7 +1,9 @@
 // Making calls on a player of the standard chain, each answered by a line of text.
-ghost use Rattle.std.specs.Prelude.{◌≡◌, length};
-ghost use Rattle.capi.specs.Replaying.{Tells, put_answer, after_put, replay_answer, after_replay, Replays};
-ghost use Rattle.capi.specs.Texts.{RefusedByText};
+ghost use Rattle.std.specs.Prelude.{◌≡◌, length, string_bytes, Ok, Err, IfOk, MatchResult};
+ghost use Rattle.chain.specs.Chains.{played};
+ghost use Rattle.recordings.specs.Pair.{link_opening};
+ghost use Rattle.capi.specs.Replaying.{run_text, TellsOpened, Replayed, put_answer, after_put, replay_answer, after_replay, Replays};
+ghost use Rattle.capi.specs.Texts.{SaysSteps};
 
 use crate::refusal::{Input, Refusal, conclude};
 use crate::report::{Heard, Report};
@@ -27,7 +29,9 @@ fn replay_chain<S: Source<Item = ConverterSample> + Drop, G: Source<Item = GainI
     signal: S,
     indices: G,
     steps: &[Numbered<Step>],
-) -> Result<String, AllocError> {
+) -> Result<String, AllocError>
+    ensures { IfOk result (λ text. string_bytes text ≡ run_text (played settings.now (S.Source.whole signal) (G.Source.whole indices)) steps.now) }
+{
     let calls = calls_of(heap, steps)?;
     let answers = standard_run(heap, settings, signal, indices, calls)?;
     let lines = AnswerLines {
@@ -45,7 +49,7 @@ fn replay_recordings(
     gain: &[u8],
     steps: &[Numbered<Step>],
 ) -> Result<Transcript, Refusal>
-    ensures { Tells signal.now gain.now result }
+    ensures { TellsOpened settings.now steps.now (link_opening signal.now gain.now) result }
 {
     let LinkRecordings { signal, gain } = LinkRecordings::open(signal, gain)?;
     let rate = signal.rate();
@@ -53,8 +57,9 @@ fn replay_recordings(
     Ok(Transcript { rate, text })
 }
 
+// The steps that a text says.
 fn steps_of(heap: Global, text: &[u8]) -> Result<Vec<Numbered<Step>>, Refusal>
-    ensures { RefusedByText result }
+    ensures { MatchResult result (λ steps. SaysSteps text.now (Ok steps.items)) (λ e. SaysSteps text.now (Err e)) }
 {
     read_all(heap, text).map_err(|wrong| refusal_of(Input::Calls, LineFault::from(wrong)))
 }
@@ -67,7 +72,7 @@ fn replay(
     settings: &[u8],
     calls: &[u8],
 ) -> Result<Transcript, Refusal>
-    ensures { Tells signal.now gain.now result }
+    ensures { Replayed settings.now calls.now signal.now gain.now result }
 {
     let made = settings_of(heap, settings)?;
     let steps = steps_of(heap, calls)?;
@@ -107,7 +112,7 @@ pub extern "C" fn tigwedan_replay(
     out: &mut [u8],
     report: &mut Report,
 ) -> u32
-    ensures { Replays signal.now gain.now out.old out.new report.new result }
+    ensures { Replays settings.now calls.now signal.now gain.now out.old out.new report.new result }
 {
     let transcript = replay(heap, signal, gain, settings, calls);
     conclude(deliver(transcript, out), report)
