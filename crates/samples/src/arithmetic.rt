@@ -42,5 +42,9 @@ pub(crate) fn nearest(x: i64, bits: u32) -> i64
     ensures laws { Clips bits }
 {
     let half = half_range(bits);
-    if -half <= x && x < half { x } else { clipped(x, bits) }
+    if -half <= x && x < half {
+        x
+    } else {
+        clipped(x, bits)
+    }
 }
