@@ -21,7 +21,8 @@ pub struct Propagation {
 impl Propagation {
     // Starts with an empty echo line, at phase 0.
     pub fn new(settings: &Settings) -> Self
-        ensures { propagation_fresh result ≡ propagated settings.now }
+        ensures fresh { propagation_fresh result ≡ propagated settings.now }
+        ensures starts { propagation_makes result ≡ propagated settings.now }
     {
         Propagation {
             multipath: Multipath::new(settings.paths),
