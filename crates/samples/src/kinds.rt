@@ -49,6 +49,8 @@ impl Sample for ConverterSample {
 
     ghost made_of_its_parts = { λ x r i. same_sample _ x (clip_same 12 x.re r) (clip_same 12 x.im i) };
 
+    ghost equal_in_both = { Prim.search rules };
+
     fn new(re: i64, im: i64) -> Self {
         ConverterSample {
             re: nearest(re, 12) as i16,
@@ -84,6 +86,8 @@ impl Sample for WorkingSample {
 
     ghost made_of_its_parts = { Prim.search rules };
 
+    ghost equal_in_both = { Prim.search rules };
+
     fn new(re: i64, im: i64) -> Self {
         WorkingSample {
             re: nearest(re, 16) as i16,
@@ -118,6 +122,8 @@ impl Sample for AirSample {
     ghost imaginary_clipped = { Prim.search rules };
 
     ghost made_of_its_parts = { Prim.search rules };
+
+    ghost equal_in_both = { Prim.search rules };
 
     fn new(re: i64, im: i64) -> Self {
         AirSample {

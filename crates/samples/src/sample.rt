@@ -1,12 +1,12 @@
 // What every kind of sample has in common.
-ghost use Rattle.std.specs.Prelude.{◌≡◌, ℕ, ◌^◌, ◌≤◌, ℤ};
+ghost use Rattle.std.specs.Prelude.{◌≡◌, ℕ, ◌^◌, ◌≤◌, ℤ, true, ◌↔◌};
 ghost use Rattle.samples.specs.Arithmetic.{clip, floor_by, Within};
 ghost use Rattle.samples.specs.Laws.{Clips};
 
 use crate::arithmetic::floor_shift;
 
 // A sample has two parts of `bits` bits each.
-pub trait Sample: Copy {
+pub trait Sample: Copy + PartialEq {
     ghost bits: { ℕ };
 
     ghost real: { Self → ℤ };
@@ -43,4 +43,7 @@ pub trait Sample: Copy {
     ghost imaginary_clipped: { (a b : ℤ) → imaginary (sample a b) ≡ clip bits b };
 
     ghost made_of_its_parts: { (x : Self) → Within bits (real x) → Within bits (imaginary x) → sample (real x) (imaginary x) ≡ x };
+
+    // `==` tells of both parts
+    ghost equal_in_both: { (x y : Self) → (Self.eq x y ≡ true) ↔ ((real x ≡ real y) × (imaginary x ≡ imaginary y)) };
 }
