@@ -1,7 +1,8 @@
 // A pairing: two sources side by side, item by item. What is done with a pair is a stage over the pairing.
-ghost use Rattle.std.specs.Prelude.{◌≡◌};
+ghost use Rattle.std.specs.Prelude.{◌≡◌, []};
+ghost use Rattle.source.specs.Streams.{answer, rest};
 ghost use Rattle.stages.specs.Meanings.{pairing_whole, pairing_left};
-ghost use Rattle.stages.specs.Wholes.{paired};
+ghost use Rattle.stages.specs.Wholes.{paired, kept_before};
 
 use source::fault::Fault;
 use source::source::Source;
@@ -38,8 +39,14 @@ impl<A: Source, B: Source> Source for Pairing<A, B> {
 
     ghost left = { pairing_left A.Source.left B.Source.left };
 
+    // The second source is asked only where the first has an item.
     #[inline(always)]
-    fn next(&mut self) -> Result<Option<(A::Item, B::Item)>, Fault> {
+    fn next(&mut self) -> Result<Option<(A::Item, B::Item)>, Fault>
+        ensures answers { result ≡ answer (pairing_left A.Source.left B.Source.left self.old) }
+        ensures moves { pairing_left A.Source.left B.Source.left self.new ≡ rest (pairing_left A.Source.left B.Source.left self.old) }
+        ensures same { pairing_whole A.Source.whole B.Source.whole self.new ≡ pairing_whole A.Source.whole B.Source.whole self.old }
+        ensures not_asked { (kept_before self.old.kept (A.Source.left self.old.first)).items ≡ [] → self.new.second ≡ self.old.second }
+    {
         let x = match self.kept {
             Some(x) => x,
             None => match self.first.next()? {
