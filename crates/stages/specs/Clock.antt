@@ -1,6 +1,6 @@
 -- The clock offset: each output stands on the straight line between two neighbours of the items below.
 -- Positions are counted in units of 2 ^ -53 of an item.
-use Rattle.std.specs.Prelude.{ℕ, ◌+◌, ◌-◌, ◌*◌, ◌/◌, ◌%◌, ◌^◌, ◌<◌, Bool, cond, ◌↔◌, List, ◌∷◌, length, ℤ, pos, ◌+ℤ◌, slice_index_or, unsigned_abs}
+use Rattle.std.specs.Prelude.{ℕ, ◌+◌, ◌-◌, ◌*◌, ◌/◌, ◌%◌, ◌^◌, ◌<◌, Bool, cond, ◌↔◌, List, ◌∷◌, length, Option, None, Some, ℤ, pos, ◌+ℤ◌, slice_index_or, unsigned_abs}
 use Rattle.samples.specs.Interpolation.{linear}
 use Rattle.samples.specs.Kinds.{silent}
 use Rattle.samples.specs.declared.kinds.WorkingSample.{WorkingSample}
@@ -66,6 +66,11 @@ count_from step p n = ((n + 1) * 2 ^ 53 - p + (step - 1)) / step
 -- output m stands at position p + m × step
 abbrev pub outputs_from : ℕ → WorkingSample → WorkingSample → ℕ → List WorkingSample → List WorkingSample
 outputs_from step before last p xs = tabulate (λ m. on_line (before ∷ last ∷ xs) (p + m * step)) 0 (count_from step p (length xs))
+
+-- how many items the next output needs; a bypassed clock has no line, and each item is an output
+abbrev pub needed : Option Line → ℕ
+needed None = 1
+needed (Some l) = index l.position
 
 -- the same for the numbers of a line
 abbrev pub outputs_on : Line → List WorkingSample → List WorkingSample

@@ -1,9 +1,9 @@
 // A clock offset: the receiver's clock runs a little faster or slower, so its samples stand between those below.
-ghost use Rattle.std.specs.Prelude.{◌≡◌, ◌-◌, ◌^◌, ◌<◌, ◌≤◌, List, ◌∷◌, pos, ◌+ℤ◌, nat_le};
+ghost use Rattle.std.specs.Prelude.{◌≡◌, ◌-◌, ◌^◌, ◌<◌, ◌≤◌, List, ◌∷◌, length, pos, ◌+ℤ◌, nat_le};
 ghost use Rattle.samples.specs.Kinds.{silent};
 ghost use Rattle.samples.specs.declared.kinds.WorkingSample.{WorkingSample as Working};
 ghost use Rattle.source.specs.Streams.{answer, rest};
-ghost use Rattle.stages.specs.Clock.{clock_step, outputs_on, clocked, ExistsExactly};
+ghost use Rattle.stages.specs.Clock.{clock_step, index, outputs_on, needed, clocked, ExistsExactly};
 ghost use Rattle.stages.specs.Wholes.{remade};
 ghost use Rattle.stages.specs.Meanings.{clock_whole, clock_left};
 
@@ -85,6 +85,7 @@ impl Line {
         ensures moves { remade (outputs_on self.new) (S.Source.left below.new) ≡ rest (remade (outputs_on self.old) (S.Source.left below.old)) }
         ensures same { S.Source.whole below.new ≡ S.Source.whole below.old }
         ensures step { self.new.step ≡ self.old.step }
+        ensures draws { length (S.Source.left below.new).items ≡ length (S.Source.left below.old).items - index self.old.position }
     {
         while self.wants_item() {
             let Some(x) = below.next()? else {
@@ -128,8 +129,14 @@ impl<S: Source<Item = WorkingSample>> Source for Clock<S> {
 
     ghost left = { clock_left S.Source.left };
 
+    // Draws as many items as the output needs, at most two, and none early.
     #[inline(always)]
-    fn next(&mut self) -> Result<Option<WorkingSample>, Fault> {
+    fn next(&mut self) -> Result<Option<WorkingSample>, Fault>
+        ensures answers { result ≡ answer (clock_left S.Source.left self.old) }
+        ensures moves { clock_left S.Source.left self.new ≡ rest (clock_left S.Source.left self.old) }
+        ensures same { clock_whole S.Source.whole self.new ≡ clock_whole S.Source.whole self.old }
+        ensures draws { length (S.Source.left self.new.below).items ≡ length (S.Source.left self.old.below).items - needed self.old.line }
+    {
         match &mut self.line {
             Some(line) => line.next_output(&mut self.below),
             None => self.below.next(),

@@ -1,4 +1,4 @@
-ghost use Rattle.std.specs.Prelude.{◌^◌, ◌<◌, ◌≤◌};
+ghost use Rattle.std.specs.Prelude.{◌*◌, ◌^◌, ◌<◌, ◌≤◌};
 
 use samples::kinds::WorkingSample;
 
@@ -13,4 +13,6 @@ pub(crate) struct Line {
     pub(crate) step: u64,
     ghost moves: { 0 < step },
     ghost step_within: { step ≤ 2 ^ 54 },
+    // The next output needs at most two items more.
+    ghost near: { position < 3 * 2 ^ 53 },
 }
