@@ -2,6 +2,7 @@
 ghost use Rattle.std.specs.Prelude.{◌≡◌, ◌≤◌, length, IfOk, Ok, Err, MatchResult};
 ghost use Rattle.recordings.specs.Items.{whole_of, left_of};
 ghost use Rattle.recordings.specs.Opening.{opening};
+ghost use Rattle.source.specs.Streams.{answer, rest};
 
 use crate::layout::Layout;
 use source::fault::Fault;
@@ -54,8 +55,14 @@ impl<'a, L: Layout> Source for Recording<'a, L> {
 
     ghost left = { λ s. left_of L.meaning L.FORMAT.align L.FAULT s.input s.whole.now s.left.now };
 
+    // The clauses of every source, and that the rate stays.
     #[inline(always)]
-    fn next(&mut self) -> Result<Option<L::Item>, Fault> {
+    fn next(&mut self) -> Result<Option<L::Item>, Fault>
+        ensures answers { result ≡ answer (⟦<Self as Source>⟧.left self.old) }
+        ensures moves { ⟦<Self as Source>⟧.left self.new ≡ rest (⟦<Self as Source>⟧.left self.old) }
+        ensures same { ⟦<Self as Source>⟧.whole self.new ≡ ⟦<Self as Source>⟧.whole self.old }
+        ensures rate { self.new.rate ≡ self.old.rate }
+    {
         let align = usize::from(L::FORMAT.align);
         if self.left.len() < align {
             return Ok(None);
@@ -73,7 +80,11 @@ impl<'a, L: Layout> Source for Recording<'a, L> {
         Ok(Some(item))
     }
 
-    fn rewind(&mut self) {
+    fn rewind(&mut self)
+        ensures moves { ⟦<Self as Source>⟧.left self.new ≡ ⟦<Self as Source>⟧.whole self.old }
+        ensures same { ⟦<Self as Source>⟧.whole self.new ≡ ⟦<Self as Source>⟧.whole self.old }
+        ensures rate { self.new.rate ≡ self.old.rate }
+    {
         self.left = self.whole;
     }
 }

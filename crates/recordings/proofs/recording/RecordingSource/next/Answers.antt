@@ -11,7 +11,7 @@ returns-then-self-align g c =
     let f = g.L.Layout.FORMAT in
     let n : c.from-align.result ≡ g.L.Layout.FORMAT.align = c.from-align.ensures ∙ ap (λ (x : Format). x.align) c.FORMAT.ensures in
     let p = ends g.L.Layout.meaning f.align g.L.Layout.FAULT s.input s.whole.now s.left.now f.takes_room (omega arith) in
-    record { answers = sym p.0; moves = p.1; same = refl }
+    record { answers = sym p.0; moves = p.1; same = refl; rate = refl }
 
 pub returns-in_default : goal.returns-in_default
 returns-in_default g c =
@@ -25,6 +25,7 @@ returns-in_default g c =
       answers = ap₂ (λ (k : FaultKind) (a : ℕ). Err (record { kind = k; input = s.input; item = (length s.whole.now - length s.left.now) / a })) c.FAULT.ensures n ∙ sym p.0;
       moves = p.1;
       same = refl;
+      rate = refl;
     }
 
 pub returns : goal.returns
@@ -39,4 +40,5 @@ returns g c =
       answers = sym p.0;
       moves = ap (left_of g.L.Layout.meaning f.align g.L.Layout.FAULT s.input s.whole.now) (c.split_at.ensures.back ∙ ap (λ (k : ℕ). drop k s.left.now) n) ∙ p.1;
       same = refl;
+      rate = refl;
     }
