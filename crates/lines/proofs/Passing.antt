@@ -5,9 +5,8 @@ use Rattle.std.specs.Str.{IsUtf8, is_utf8}
 use Rattle.std.proofs.lemmas.Bool.Decides.{nat_tests}
 use Rattle.std.proofs.lemmas.Str.{IsUtf8-from_is_utf8, is_utf8-from_IsUtf8}
 use Rattle.lines.specs.declared.fault.Wrong.{Wrong}
-use Rattle.lines.specs.declared.fault.Wrong.TheVariants.{Memory}
 use Rattle.lines.specs.declared.numbered.Numbered.{Numbered}
-use Rattle.lines.specs.Entries.{WrongText, Holds, IsWrong, FirstWrong, entries_behind}
+use Rattle.lines.specs.Entries.{WrongText, Holds, IsWrong, NoRoomFor, FirstWrong, entries_behind}
 use Rattle.lines.proofs.Rows.{zip_more}
 use mathlib.Core.Logic.{◌⊎◌, inl, inr}
 use Rattle.lines.specs.Lines.{lines_of, told, numbered}
@@ -79,6 +78,6 @@ passed_more Says all left after held entry one so_far is holds = (
 )
 
 -- the entry at which reading stops
-pub stops : {F : Type 0} (Says : List (List ℕ) → F → Type 0) (Complains : List (List ℕ) → Wrong → Type 0) (all left after : List (ℕ × List ℕ)) (held : List (Numbered F)) (entry : ℕ × List ℕ) (wrong : Numbered Wrong) → Passed Says all left held → left ≡ entry ∷ after → IsWrong Complains entry wrong ⊎ ((wrong.line ≡ entry.0) × (wrong.held ≡ Memory)) → FirstWrong Says Complains all wrong
+pub stops : {F : Type 0} (Says : List (List ℕ) → F → Type 0) (Complains : List (List ℕ) → Wrong → Type 0) (all left after : List (ℕ × List ℕ)) (held : List (Numbered F)) (entry : ℕ × List ℕ) (wrong : Numbered Wrong) → Passed Says all left held → left ≡ entry ∷ after → IsWrong Complains entry wrong ⊎ NoRoomFor Says entry wrong → FirstWrong Says Complains all wrong
 stops Says Complains all left after held entry wrong so_far is fails =
     record { before = so_far.0; entry = entry; after = after; held = held; entries_are = so_far.1 ∙ ap (λ ls. so_far.0 ++ ls) is; hold = so_far.2; fails = fails }

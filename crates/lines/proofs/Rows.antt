@@ -1,12 +1,12 @@
 -- What reading row by row tells of the words.
-use Rattle.std.proofs.Common.{◌≡◌, ℕ, List, [], ◌∷◌, ◌++◌, refl, sym, ap, ◌∙◌, Option, Some, is_some, Result, Ok, Err, MatchResult, append-nil, append_assoc, subst, ◌<◌, length}
+use Rattle.std.proofs.Common.{◌≡◌, ℕ, List, [], ◌∷◌, ◌++◌, refl, sym, ap, ◌∙◌, Option, Some, is_some, Result, Ok, Err, MatchResult, append-nil, append_assoc, subst, ◌<◌, length, arith}
 use Rattle.std.specs.Result.{IsErrAnd}
 use Rattle.std.specs.List.{All, AllZip, flat_map}
 use Rattle.std.proofs.lemmas.Grind.{flat_map-append}
 use Rattle.std.proofs.lemmas.List.Elements.{All-push}
 use Rattle.lines.specs.declared.fault.Wrong.{Wrong}
-use Rattle.lines.specs.Faults.{Kind, kind_of, Spells, FailsAt, Lacks, Exceeds, NoRows, TakesRow}
-use mathlib.Core.Logic.{inr}
+use Rattle.lines.specs.Faults.{Kind, kind_of, Spells, FailsAt, Lacks, Exceeds, BeginsWithRow, NoRows, SayRows, TakesRow}
+use mathlib.Core.Logic.{◌⊎◌, inl, inr}
 
 -- the error that a failed step hands on
 pub exit : {T E : Type 0} (P : T → Type 0) (Q : E → Type 0) (r : Result T E) (w : E) → IsErrAnd r (λ e. e ≡ w) → Q w → MatchResult r P Q
@@ -80,3 +80,21 @@ begun_more kinds Says words items left after row begun takes =
 
 pub last_lacks : {R : Type 0} (form : List ℕ) (kinds : List Kind) (Says : List (List ℕ) → R → Type 0) (words : List (List ℕ)) (items : List R) (left : List (List ℕ)) (wrong : Wrong) → Begun kinds Says words items left → 0 < length left → Lacks form kinds left wrong → NoRows form kinds words wrong
 last_lacks form kinds Says words items left wrong begun some fails = inr (record { whole = begun.0; last = left; words_are = begun.1; begun = some; spell = begun.2; fails = fails })
+
+-- rows in front of words that begin with one
+first_row : (kinds : List Kind) (words left : List (List ℕ)) (whole : List (List (List ℕ))) → words ≡ flat_map (λ row. row) whole ++ left → All (AllZip Spells kinds) whole → BeginsWithRow kinds left → BeginsWithRow kinds words
+first_row kinds words left [] is all h = subst (BeginsWithRow kinds) (sym is) h
+first_row kinds words left (row ∷ whole) is all h = (row, flat_map (λ r. r) whole ++ left, is ∙ append_assoc row (flat_map (λ r. r) whole) left, all 0 row (omega arith))
+
+-- the words begin with a row, once one was taken
+pub begun_row : {R : Type 0} (kinds : List Kind) (Says : List (List ℕ) → R → Type 0) (words : List (List ℕ)) (items : List R) (left after : List (List ℕ)) (row : R) → Begun kinds Says words items left → TakesRow kinds Says left after row → BeginsWithRow kinds words
+begun_row kinds Says words items left after row begun takes = first_row kinds words left begun.0 begun.1 begun.2 (takes.0, after, takes.1, takes.2)
+
+-- words that are rows begin with one, unless there are none
+rows_first : {R : Type 0} (kinds : List Kind) (Says : List (List ℕ) → R → Type 0) → ((ws : List (List ℕ)) (row : R) → Says ws row → AllZip Spells kinds ws) → (words : List (List ℕ)) (rows : List (List (List ℕ))) (items : List R) → words ≡ flat_map (λ row. row) rows → AllZip Says rows items → (words ≡ []) ⊎ BeginsWithRow kinds words
+rows_first kinds Says spell words [] items is all = inl is
+rows_first kinds Says spell words (row ∷ rows) [] is all = absurd all
+rows_first kinds Says spell words (row ∷ rows) (x ∷ items) is all = inr (row, flat_map (λ r. r) rows, is, spell row x all.0)
+
+pub rows_begin : {R : Type 0} (kinds : List Kind) (Says : List (List ℕ) → R → Type 0) → ((ws : List (List ℕ)) (row : R) → Says ws row → AllZip Spells kinds ws) → (words : List (List ℕ)) (items : List R) → SayRows Says words items → (words ≡ []) ⊎ BeginsWithRow kinds words
+rows_begin kinds Says spell words items h = rows_first kinds Says spell words h.0 items h.1 h.2

@@ -35,6 +35,10 @@ abbrev pub Reads : {F : Type 0} → (List (List ℕ) → F → Type 0) → (List
 Reads Says Complains entry (Ok held) = Holds Says entry held
 Reads Says Complains entry (Err wrong) = IsWrong Complains entry wrong
 
+-- there is no memory for what the entry says
+abbrev pub NoRoomFor : {F : Type 0} → (List (List ℕ) → F → Type 0) → ℕ × List ℕ → Numbered Wrong → Type 0
+NoRoomFor {F = F} Says entry wrong = (wrong.held ≡ Memory) × ((value : F) × Holds Says entry (record { line = wrong.line; held = value }))
+
 -- All entries before one hold what is read; that one is wrong, or there is no memory for it.
 pub record FirstWrong {F : Type 0} (Says : List (List ℕ) → F → Type 0) (Complains : List (List ℕ) → Wrong → Type 0) (entries : List (ℕ × List ℕ)) (wrong : Numbered Wrong) : Type 0 where
   pub before : List (ℕ × List ℕ)
@@ -43,4 +47,4 @@ pub record FirstWrong {F : Type 0} (Says : List (List ℕ) → F → Type 0) (Co
   pub held : List (Numbered F)
   pub entries_are : entries ≡ before ++ entry ∷ after
   pub hold : AllZip (Holds Says) before held
-  pub fails : IsWrong Complains entry wrong ⊎ ((wrong.line ≡ entry.0) × (wrong.held ≡ Memory))
+  pub fails : IsWrong Complains entry wrong ⊎ NoRoomFor Says entry wrong

@@ -23,10 +23,10 @@ Unknown kind word (UnknownWord quote names) = (string_bytes quote ≡ quote_of w
 Unknown kind word Memory = Unit {0}
 Unknown kind word _ = ⊥
 
--- the word is no number of the kind
+-- the word is no number of the kind; where there is no memory to quote it, that is told
 abbrev pub Mistaken : Kind → List ℕ → Wrong → Type 0
 Mistaken kind word (NoNumber quote range) = (kind.spells word ≡ false) × (string_bytes quote ≡ quote_of word) × (range.now ≡ kind.range)
-Mistaken kind word Memory = Unit {0}
+Mistaken kind word Memory = kind.spells word ≡ false
 Mistaken kind word _ = ⊥
 
 -- a number of the form is missing
@@ -75,12 +75,20 @@ pub record LastLacks (form : List ℕ) (kinds : List Kind) (words : List (List �
   pub spell : All (AllZip Spells kinds) whole
   pub fails : Lacks form kinds last wrong
 
+-- the words begin with a whole row
+abbrev pub BeginsWithRow : List Kind → List (List ℕ) → Type 0
+BeginsWithRow kinds words = (row : List (List ℕ)) × (more : List (List ℕ)) × (words ≡ row ++ more) × AllZip Spells kinds row
+
+-- there is no memory for the rows; where there are words, a whole row comes first
+abbrev pub NoRoom : List Kind → List (List ℕ) → Wrong → Type 0
+NoRoom kinds words wrong = (wrong ≡ Memory) × ((words ≡ []) ⊎ BeginsWithRow kinds words)
+
 -- what is wrong with words that should be one row of numbers, and with words that should be whole rows
 abbrev pub NoRow : List ℕ → List Kind → List (List ℕ) → Wrong → Type 0
 NoRow form kinds words wrong = Lacks form kinds words wrong ⊎ Exceeds form kinds words wrong
 
 abbrev pub NoRows : List ℕ → List Kind → List (List ℕ) → Wrong → Type 0
-NoRows form kinds words wrong = (wrong ≡ Memory) ⊎ LastLacks form kinds words wrong
+NoRows form kinds words wrong = NoRoom kinds words wrong ⊎ LastLacks form kinds words wrong
 
 -- the words are rows that say the items, one behind the other
 abbrev pub SayRows : {R : Type 0} → (List (List ℕ) → R → Type 0) → List (List ℕ) → List R → Type 0

@@ -17,6 +17,11 @@ call_of (Fill n) = fill (replicate n (converter (pos 0) (pos 0)))
 call_of (Skip n) = skip n
 call_of Rewind = rewind
 
+-- only a fill takes memory, for its buffer
+abbrev pub TakesMemory : Step → Type 0
+TakesMemory (Fill n) = Unit {0}
+TakesMemory _ = ⊥
+
 -- the words of a line say a step
 abbrev pub Says : List (List ℕ) → Step → Type 0
 Says [] step = ⊥

@@ -1,8 +1,8 @@
 // Files of calls: `next`, `fill N`, `skip N` or `rewind`, one a line.
-ghost use Rattle.std.specs.Prelude.{◌≡◌, map, IfOk, Some};
+ghost use Rattle.std.specs.Prelude.{◌≡◌, map, IfOk, IfErr, Some};
 ghost use Rattle.player.specs.Calls.{asked};
 ghost use Rattle.transcript.specs.Answers.{step_text};
-ghost use Rattle.transcript.specs.Steps.{call_of, Says, Complains};
+ghost use Rattle.transcript.specs.Steps.{call_of, TakesMemory, Says, Complains};
 
 use lines::entries::Form;
 use lines::entry::Entry;
@@ -24,9 +24,10 @@ pub enum Step {
 }
 
 impl Step {
-    // The player's call. A fill brings a buffer of zeros.
+    // The player's call. A fill brings a buffer of zeros; for no other there can be too little memory.
     pub fn call(self, heap: Global) -> Result<Call<ConverterSample>, AllocError>
-        ensures { IfOk result (λ call. asked call ≡ call_of self) }
+        ensures call { IfOk result (λ call. asked call ≡ call_of self) }
+        ensures memory { IfErr result (λ _. TakesMemory self) }
     {
         match self {
             Step::Next => Ok(Call::Next),

@@ -30,7 +30,7 @@ returns-in_err-push g c =
     let holds : Holds g.F.Form.Says step.0 c.in_ok-entry.field-0 = subst (Reads g.F.Form.Says g.F.Form.Complains step.0) c.in_ok-entry.was step.2 in
     let line = ap (λ x. x.line) c.in_err-push.ensures.value_returned ∙ holds.0 in
     exit _ _ _ _ c.from_residual-in_err-push.ensures.1
-    (stops g.F.Form.Says g.F.Form.Complains (entries_of c.args.bytes.now) (entries_left c.loop-entry.entry-iterator) (entries_left c.next.new.self) c.loop-entry.all.items step.0 _ c.loop-entry.invariant.2 step.1 (inr (line, refl)))
+    (stops g.F.Form.Says g.F.Form.Complains (entries_of c.args.bytes.now) (entries_left c.loop-entry.entry-iterator) (entries_left c.next.new.self) c.loop-entry.all.items step.0 _ c.loop-entry.invariant.2 step.1 (inr (refl, (c.in_ok-entry.field-0.held, (line, holds.1, holds.2)))))
 
 pub returns : goal.returns
 returns g c =

@@ -1,7 +1,13 @@
 use Rattle.std.proofs.Common.{◌≡◌, map, refl, rules, vec_items}
 use Rattle.std.proofs.lemmas.Iterator.{YieldsList-from_slice, YieldsList-from_map, items_from_collect}
 use Rattle.std.proofs.lemmas.Result.{IfOk-at_ok}
+use Rattle.lines.proofs.Rows.{exit}
+use mathlib.Core.Logic.{inl}
+use Rattle.settings_file.proofs.Rows.{paths_begin}
 use Rattle.settings_file.proofs.forms.paths.Goals as goal
+
+pub returns-in_err-paths : goal.returns-in_err-paths
+returns-in_err-paths c = exit _ _ _ _ c.from_residual-in_err-paths.ensures.1 (inl (refl, paths_begin _ c.in_ok-rows.rows.items c.in_ok-rows.ensures))
 
 pub returns : goal.returns
 returns c =

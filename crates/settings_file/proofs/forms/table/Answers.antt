@@ -1,7 +1,16 @@
 use Rattle.std.proofs.Common.{◌≡◌, map, refl, rules, vec_items}
 use Rattle.std.proofs.lemmas.Iterator.{YieldsList-from_slice, YieldsList-from_map, items_from_collect}
 use Rattle.std.proofs.lemmas.Result.{IfOk-at_ok}
+use Rattle.lines.proofs.Rows.{exit}
+use mathlib.Core.Logic.{inl}
+use Rattle.settings_file.proofs.Rows.{table_begins}
 use Rattle.settings_file.proofs.forms.table.Goals as goal
+
+pub returns-in_err-collect : goal.returns-in_err-collect
+returns-in_err-collect c = exit _ _ _ _ c.from_residual-in_err-collect.ensures.1 (inl (refl, table_begins _ c.in_ok-rows.rows.items c.in_ok-rows.ensures))
+
+pub returns-in_err-collect-2 : goal.returns-in_err-collect-2
+returns-in_err-collect-2 c = exit _ _ _ _ c.from_residual-in_err-collect-2.ensures.1 (inl (refl, table_begins _ c.in_ok-rows.rows.items c.in_ok-rows.ensures))
 
 pub returns : goal.returns
 returns c =

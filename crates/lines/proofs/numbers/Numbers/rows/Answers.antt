@@ -2,8 +2,8 @@ use Rattle.std.proofs.Common.{◌∷◌, ◌<◌, length, refl, sym, ap, ◌∙�
 use Rattle.std.specs.List.{flat_map}
 use Rattle.lines.specs.Faults.{Lacks, TakesRow}
 use Rattle.lines.specs.Taking.{numbers_left}
-use Rattle.lines.proofs.Rows.{exit, Begun, begun_more, last_lacks}
-use mathlib.Core.Logic.{inl}
+use Rattle.lines.proofs.Rows.{exit, Begun, begun_more, begun_row, last_lacks}
+use mathlib.Core.Logic.{inl, inr}
 use Rattle.lines.proofs.numbers.Numbers.rows.Goals as goal
 
 pub loop-first-preserved : goal.loop-first-preserved
@@ -25,7 +25,11 @@ returns-in_err-read g c =
     (last_lacks c.args.self.form.now kinds g.R.Row.Says _ _ _ _ c.loop-first.invariant.1 some (subst (λ f. Lacks f kinds (numbers_left c.loop-first.self) c.in_err-read.field-0.0) form fails))
 
 pub returns-in_err-push : goal.returns-in_err-push
-returns-in_err-push g c = exit _ _ _ _ c.from_residual-in_err-push.ensures.1 (inl refl)
+returns-in_err-push g c =
+    let kinds = g.R.Row.kind ∷ g.R.Row.kinds_behind in
+    let takes = subst (λ words. TakesRow kinds g.R.Row.Says words (numbers_left c.read.new.behind) c.in_ok-read.field-0) (sym c.in-Some.ensures) c.in_ok-read.ensures.read in
+    let begins = begun_row kinds g.R.Row.Says (numbers_left c.args.self) c.loop-first.rows.items (numbers_left c.loop-first.self) (numbers_left c.read.new.behind) c.in_ok-read.field-0 c.loop-first.invariant.1 takes in
+    exit _ _ _ _ c.from_residual-in_err-push.ensures.1 (inl (refl, inr begins))
 
 pub returns : goal.returns
 returns g c =
