@@ -1,6 +1,7 @@
 // The player's fault: the source's fault whole, and the place.
-ghost use Rattle.std.specs.Prelude.{◌≡◌};
+ghost use Rattle.std.specs.Prelude.{◌≡◌, Some};
 ghost use Rattle.player.specs.Plain.{player_fault};
+ghost use Rattle.player.specs.Words.{player_fault_text};
 
 use crate::place::LAST_PLACE;
 use source::fault::Fault;
@@ -26,6 +27,8 @@ impl From<(Fault, u64)> for PlayerFault {
 }
 
 impl fmt::Display for PlayerFault {
+    ghost output = { λ f. Some (player_fault_text f) };
+
     fn fmt<W: fmt::Write>(&self, f: &mut fmt::Formatter<W>) -> fmt::Result {
         let fault = self.fault;
         let place = self.place;

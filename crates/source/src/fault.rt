@@ -1,6 +1,6 @@
 // Faults: what can be wrong with an item, and how a list of items ends.
-ghost use Rattle.std.specs.Prelude.{◌≡◌};
-ghost use Rattle.source.specs.Faults.{fault_number};
+ghost use Rattle.std.specs.Prelude.{◌≡◌, Some};
+ghost use Rattle.source.specs.Faults.{fault_number, fault_text};
 
 use std::fmt;
 
@@ -43,6 +43,8 @@ pub struct Fault {
 }
 
 impl fmt::Display for Fault {
+    ghost output = { λ f. Some (fault_text f) };
+
     fn fmt<W: fmt::Write>(&self, f: &mut fmt::Formatter<W>) -> fmt::Result {
         let number = self.kind.number();
         let input = self.input;

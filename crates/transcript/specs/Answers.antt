@@ -2,9 +2,8 @@
 use Rattle.std.specs.Prelude.{ℕ, List, [], ◌∷◌, ◌++◌, take, Some, None, Ok, Err, Option, codes, decimal, flat_map}
 use Rattle.std.specs.Fmt.{signed_decimal}
 use Rattle.samples.specs.declared.converter.ConverterSample.{ConverterSample}
-use Rattle.source.specs.Faults.{fault_number}
 use Rattle.player.specs.Calls.{Told, item, filled, skipped, rewound}
-use Rattle.player.specs.declared.fault.PlayerFault.{PlayerFault}
+use Rattle.player.specs.Words.{player_fault_text}
 use Rattle.lines.specs.declared.numbered.Numbered.{Numbered}
 use Rattle.transcript.specs.declared.step.Step.{Step}
 use Rattle.transcript.specs.declared.step.Step.TheVariants.{Next, Fill, Skip, Rewind}
@@ -33,18 +32,14 @@ placed_text x = codes "; " ++ sample_text x
 abbrev pub filled_text : ℕ → List ConverterSample → List ℕ
 filled_text count buffer = decimal count ++ flat_map placed_text (take count buffer)
 
--- the player's fault: its number, the input that has it, the item there, and the place
-abbrev pub fault_text : PlayerFault → List ℕ
-fault_text f =
-    codes "fault " ++ (decimal (fault_number f.fault.kind) ++ (codes " input " ++ (decimal f.fault.input ++ (codes " item " ++ (decimal f.fault.item ++ (codes " place " ++ decimal f.place))))))
-
+-- what was answered
 abbrev pub told_text : Told ConverterSample → List ℕ
 told_text (item (Ok found)) = item_text found
-told_text (item (Err f)) = fault_text f
+told_text (item (Err f)) = player_fault_text f
 told_text (filled (Ok count) buffer) = filled_text count buffer
-told_text (filled (Err f) buffer) = fault_text f
+told_text (filled (Err f) buffer) = player_fault_text f
 told_text (skipped (Ok count)) = decimal count
-told_text (skipped (Err f)) = fault_text f
+told_text (skipped (Err f)) = player_fault_text f
 told_text rewound = codes "done"
 
 -- a step and its answer

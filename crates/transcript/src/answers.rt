@@ -2,12 +2,11 @@
 ghost use Rattle.std.specs.Prelude.{Some, map};
 ghost use Rattle.std.specs.Fmt.{WritesOnOk};
 ghost use Rattle.player.specs.Calls.{told};
-ghost use Rattle.transcript.specs.Answers.{answer_lines, answer_text, fault_text, filled_text, item_text};
+ghost use Rattle.transcript.specs.Answers.{answer_lines, answer_text, filled_text, item_text};
 
 use crate::step::Step;
 use lines::numbered::Numbered;
 use player::calls::Answer;
-use player::fault::PlayerFault;
 use samples::converter::ConverterSample;
 use std::fmt;
 
@@ -52,17 +51,6 @@ fn write_filled<W: fmt::Write>(
     Ok(())
 }
 
-// From its numbers: the words of its own `Display` promise no text.
-fn write_fault<W: fmt::Write>(f: &mut fmt::Formatter<W>, fault: &PlayerFault) -> fmt::Result
-    ensures { WritesOnOk W.write_str_gives f.old result (fault_text fault.now) f.new }
-{
-    let number = fault.fault.kind.number();
-    let input = fault.fault.input;
-    let item = fault.fault.item;
-    let place = fault.place;
-    write!(f, "fault {number} input {input} item {item} place {place}")
-}
-
 impl<'a> fmt::Display for AnswerLine<'a> {
     ghost output = { λ line. Some (answer_text line.step (told line.answer.now)) };
 
@@ -76,7 +64,7 @@ impl<'a> fmt::Display for AnswerLine<'a> {
             Answer::Rewound => write!(f, "done"),
             Answer::Item(Err(fault))
             | Answer::Filled(Err(fault), _)
-            | Answer::Skipped(Err(fault)) => write_fault(f, fault),
+            | Answer::Skipped(Err(fault)) => write!(f, "{fault}"),
         }
     }
 }
