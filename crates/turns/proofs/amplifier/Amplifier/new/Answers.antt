@@ -1,4 +1,4 @@
-use Rattle.std.proofs.Common.{ℕ, ◌^◌, ◌<◌, arith}
+use Rattle.std.proofs.Common.{◌^◌, ◌<◌, arith}
 use Rattle.samples.proofs.RootFacts.{root_is}
 use Rattle.turns.proofs.amplifier.Amplifier.new.Goals as goal
 
