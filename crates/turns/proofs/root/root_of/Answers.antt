@@ -5,7 +5,7 @@ use Rattle.turns.proofs.root.root_of.Goals as goal
 
 pub returns-then-square-m : goal.returns-then-square-m
 returns-then-square-m c =
-    let p : Root c.args.n c.near_root-m.result = record { at_most = c.if-m-square.true; greatest = c.if-square-m.true } in
+    let p : Root c.args.n c.if-next-square.m = record { at_most = c.if-m-square.true; greatest = c.if-square-m.true } in
     let h : c.args.n < 2 ^ 82 = omega arith in
     record { value = only_root _ _ _ p (root_is c.args.n h); greatest = p }
 
