@@ -12,7 +12,7 @@ use Rattle.settings_file.specs.declared.fault.LineFault.{LineFault}
 use Rattle.settings_file.specs.declared.setting.Setting.{Setting}
 use Rattle.capi.specs.declared.refusal.Input.TheVariants as inputs
 use Rattle.capi.specs.declared.refusal.Refusal.{Refusal}
-use Rattle.capi.specs.Texts.{MakesSettings, OfText, RefusedByText, Settles, stopped_at}
+use Rattle.capi.specs.Texts.{MakesSettings, Settles, stopped_at}
 
 none_said : (said : List (Numbered Setting)) → AllZip (Holds Says) [] said → said ≡ []
 none_said [] h = refl
@@ -33,17 +33,15 @@ of_no_text : (r : Result Settings Refusal) → MakesSettings [] r → r ≡ Ok f
 of_no_text (Ok made) h = ap Ok (made_of_none made h)
 of_no_text (Err refusal) h = absurd (never_stopped h.fault h.stops)
 
-settled : (text : List ℕ) (r : Result Settings Refusal) → RefusedByText r → MakesSettings text r → Settles text r
-settled text r refused makes = record { empty = λ none. of_no_text r (subst (λ t. MakesSettings t r) none makes); refused = refused; makes = makes }
+settled : (text : List ℕ) (r : Result Settings Refusal) → MakesSettings text r → Settles text r
+settled text r makes = record { empty = λ none. of_no_text r (subst (λ t. MakesSettings t r) none makes); makes = makes }
 
 -- settings that were read, or the refusal that tells the fault
 pub settles : {Told : LineFault → Refusal → Type 0} (text : List ℕ) (read : Result Settings LineFault) (r : Result Settings Refusal)
     → MatchResult read (Makes (entries_of text) fresh) (Stops (entries_of text))
     → MatchResult read (λ made. r ≡ Ok made) (λ fault. IsErrAnd r (Told fault))
-    → ((fault : LineFault) (e : Refusal) → Told fault e → OfText e × (e ≡ stopped_at inputs.Settings fault.line fault.stop))
+    → ((fault : LineFault) (e : Refusal) → Told fault e → e ≡ stopped_at inputs.Settings fault.line fault.stop)
     → Settles text r
-settles text (Ok made) r makes told tells = subst (Settles text) (sym told) (settled text (Ok made) tt makes)
+settles text (Ok made) r makes told tells = subst (Settles text) (sym told) (settled text (Ok made) makes)
 settles text (Err fault) (Ok made) stops told tells = absurd told
-settles text (Err fault) (Err e) stops told tells =
-    let t = tells fault e told in
-    settled text (Err e) t.0 (record { fault = fault; stops = stops; refusal_is = t.1 })
+settles text (Err fault) (Err e) stops told tells = settled text (Err e) (record { fault = fault; stops = stops; refusal_is = tells fault e told })

@@ -16,20 +16,7 @@ use Rattle.transcript.specs.declared.step.Step.{Step}
 use Rattle.capi.specs.declared.refusal.Input.{Input}
 use Rattle.capi.specs.declared.refusal.Input.TheVariants as inputs
 use Rattle.capi.specs.declared.refusal.Refusal.{Refusal}
-use Rattle.capi.specs.declared.refusal.Refusal.TheVariants.{Opening, Setting, UnknownKind, WrongLine, Memory, Room}
-
--- a text is refused for one of its lines, or for want of memory
-abbrev pub OfText : Refusal → Type 0
-OfText (Setting line e) = Unit {0}
-OfText (WrongLine input line) = Unit {0}
-OfText Memory = Unit {0}
-OfText (Opening input e) = ⊥
-OfText UnknownKind = ⊥
-OfText (Room needed) = ⊥
-
-abbrev pub RefusedByText : {A : Type 0} → Result A Refusal → Type 0
-RefusedByText (Ok x) = Unit {0}
-RefusedByText (Err e) = OfText e
+use Rattle.capi.specs.declared.refusal.Refusal.TheVariants.{Setting, WrongLine, Memory}
 
 -- the refusal of a text that this line of it stops
 abbrev pub stopped_at : Input → ℕ → Stop → Refusal
@@ -51,7 +38,6 @@ MakesSettings text (Err refusal) = StopsSettings text refusal
 -- What a text of settings makes. The empty text makes fresh settings, whatever memory there is.
 pub record Settles (text : List ℕ) (settings : Result Settings Refusal) : Type 0 where
   pub empty : text ≡ [] → settings ≡ Ok fresh
-  pub refused : RefusedByText settings
   pub makes : MakesSettings text settings
 
 -- A text of calls is refused for its first line that is wrong, or for which there is no memory.

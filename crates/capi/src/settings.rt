@@ -1,6 +1,6 @@
 // The settings that a text makes.
 ghost use Rattle.std.specs.Prelude.{◌≡◌};
-ghost use Rattle.capi.specs.Texts.{OfText, Settles, stopped_at};
+ghost use Rattle.capi.specs.Texts.{Settles, stopped_at};
 
 use crate::refusal::{Input, Refusal};
 use lines::fault::Wrong;
@@ -11,8 +11,7 @@ use std::alloc::Global;
 
 // Why a text stops: the first line of it that is wrong or refused.
 pub(crate) fn refusal_of(input: Input, fault: LineFault) -> Refusal
-    ensures of_text { OfText result }
-    ensures stopped { result ≡ stopped_at input fault.line fault.stop }
+    ensures { result ≡ stopped_at input fault.line fault.stop }
 {
     let line = fault.line;
     match fault.stop {

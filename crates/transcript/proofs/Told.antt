@@ -5,7 +5,8 @@ use Rattle.samples.specs.declared.converter.ConverterSample.{ConverterSample}
 use Rattle.player.specs.Calls.{told}
 use Rattle.player.specs.declared.calls.Answer.{Answer}
 use Rattle.lines.specs.declared.numbered.Numbered.{Numbered}
-use Rattle.transcript.specs.Answers.{answer_lines, answer_text, feed, placed_text}
+use Rattle.lines.specs.Lines.{feed}
+use Rattle.transcript.specs.Answers.{answer_lines, answer_text, placed_text}
 use Rattle.transcript.specs.declared.step.Step.{Step}
 
 take_first : {A : Type 0} (n : ℕ) (x : A) (xs : List A) → take (n + 1) (x ∷ xs) ≡ x ∷ take n xs

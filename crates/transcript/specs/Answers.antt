@@ -1,9 +1,11 @@
 -- What a run tells in text: a line for each step, with its answer.
 use Rattle.std.specs.Prelude.{ℕ, List, [], ◌∷◌, ◌++◌, take, Some, None, Ok, Err, Option, codes, decimal, flat_map}
 use Rattle.std.specs.Fmt.{signed_decimal}
+use Rattle.std.specs.List.{zip}
 use Rattle.samples.specs.declared.converter.ConverterSample.{ConverterSample}
 use Rattle.player.specs.Calls.{Told, item, filled, skipped, rewound}
 use Rattle.player.specs.Words.{player_fault_text}
+use Rattle.lines.specs.Lines.{feed}
 use Rattle.lines.specs.declared.numbered.Numbered.{Numbered}
 use Rattle.transcript.specs.declared.step.Step.{Step}
 use Rattle.transcript.specs.declared.step.Step.TheVariants.{Next, Fill, Skip, Rewind}
@@ -46,12 +48,10 @@ told_text rewound = codes "done"
 abbrev pub answer_text : Step → Told ConverterSample → List ℕ
 answer_text step answer = step_text step ++ (codes ": " ++ told_text answer)
 
--- the byte that ends a line
-abbrev pub feed : ℕ
-feed = 10
+-- the line of a step and its answer
+abbrev pub line_text : Numbered Step × Told ConverterSample → List ℕ
+line_text turn = answer_text turn.0.held turn.1 ++ feed ∷ []
 
 -- all steps with their answers, each in a line of its own
 abbrev pub answer_lines : List (Numbered Step) → List (Told ConverterSample) → List ℕ
-answer_lines [] answers = []
-answer_lines (step ∷ steps) [] = []
-answer_lines (step ∷ steps) (answer ∷ answers) = (answer_text step.held answer ++ feed ∷ []) ++ answer_lines steps answers
+answer_lines steps answers = flat_map line_text (zip steps answers)

@@ -4,7 +4,8 @@ use Rattle.std.specs.Iterator.Adapters.{zip_first, zip_second}
 use Rattle.std.specs.Slice.Iter.{iter_rest}
 use Rattle.std.proofs.lemmas.Slice.Zip.{Zip-more, either_empty_from_Zip}
 use Rattle.player.specs.Calls.{told}
-use Rattle.transcript.specs.Answers.{answer_text, feed}
+use Rattle.lines.specs.Lines.{feed}
+use Rattle.transcript.specs.Answers.{answer_text}
 use Rattle.transcript.proofs.Told.{lines_more, lines_end}
 use Rattle.transcript.proofs.answers.AnswerLinesDisplay.fmt.Goals as goal
 
