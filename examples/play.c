@@ -77,15 +77,21 @@ static int write_file(const char *name, uint32_t rate, const struct tigwedan_sam
     return fclose(file) == 0;
 }
 
+/* What was handed in, by name. */
+struct names {
+    const char *signal, *gain, *settings;
+};
+
 /* Says what was refused; the statuses are explained in tigwedan.h. */
-static int refused(uint32_t status, const struct tigwedan_report *report, const char *const names[])
+static int refused(uint32_t status, const struct tigwedan_report *report, struct names names)
 {
+    unsigned long long place = report->place;
     if (status == TIGWEDAN_MEMORY)
         printf("there is not enough memory\n");
-    else if (report->input < TIGWEDAN_SETTINGS)
-        printf("%s: refused %u at byte %llu\n", names[report->input], status, (unsigned long long)report->place);
+    else if (report->input == TIGWEDAN_SETTINGS)
+        printf("%s:%llu: refused %u\n", names.settings, place, status);
     else
-        printf("%s:%llu: refused %u\n", names[report->input], (unsigned long long)report->place, status);
+        printf("%s: refused %u at byte %llu\n", report->input == TIGWEDAN_GAINS ? names.gain : names.signal, status, place);
     return 1;
 }
 
@@ -94,7 +100,7 @@ int main(int count, char **words)
     struct tigwedan_report report;
     struct tigwedan_sample *out;
     struct bytes signal, gain, settings = {(uint8_t *)"", 0};
-    const char *names[3];
+    struct names names;
     uint32_t status;
     size_t room;
 
@@ -102,13 +108,13 @@ int main(int count, char **words)
         fprintf(stderr, "usage: play SIGNAL GAIN [SETTINGS [OUT]]\n");
         return 1;
     }
-    names[TIGWEDAN_SIGNAL] = words[1];
-    names[TIGWEDAN_GAINS] = words[2];
-    names[TIGWEDAN_SETTINGS] = count > 3 ? words[3] : "-";
+    names.signal = words[1];
+    names.gain = words[2];
+    names.settings = count > 3 ? words[3] : "-";
     signal = read_file(words[1]);
     gain = read_file(words[2]);
-    if (strcmp(names[TIGWEDAN_SETTINGS], "-") != 0)
-        settings = read_file(names[TIGWEDAN_SETTINGS]);
+    if (strcmp(names.settings, "-") != 0)
+        settings = read_file(names.settings);
 
     status = tigwedan_open(TIGWEDAN_SIGNAL, signal.start, signal.length, &report);
     if (status != TIGWEDAN_DONE)

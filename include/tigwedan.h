@@ -41,12 +41,13 @@ enum tigwedan_status {
     TIGWEDAN_ROOM = 67            /* the buffer is too short; report.place is the number of bytes that it needs */
 };
 
-/* What is handed in, as report.input names it. Signal and gain are also the kinds of recording. */
+/* What is handed in, as report.input names it: a recording by a number up to 255, by which its faults name it too, a text by
+ * a number from 256 on. Signal and gain are also the kinds of recording. */
 enum tigwedan_input {
     TIGWEDAN_SIGNAL = 0,          /* 12-bit I/Q samples */
     TIGWEDAN_GAINS = 1,           /* receive gain indices, 0 to 127 */
-    TIGWEDAN_SETTINGS = 2,
-    TIGWEDAN_CALLS = 3
+    TIGWEDAN_SETTINGS = 256,
+    TIGWEDAN_CALLS = 257
 };
 
 /* With which fault the items of a recording end, as report.fault has it. */
@@ -61,7 +62,7 @@ struct tigwedan_report {
     uint32_t rate;                /* samples a second: of the signal, or of what was opened */
     uint32_t ended;               /* 1 if the end of the items was met, else 0 */
     uint32_t fault;               /* the fault with which they end, or 0 */
-    uint32_t input;               /* the input that has the fault, or that is refused */
+    uint32_t input;               /* the input that has the fault, or that is refused; 0 also where none is meant */
     uint64_t items;               /* items counted, samples placed or bytes written */
     uint64_t item;                /* the place of the fault's item in its input, from 0 */
     uint64_t place;               /* of a refusal: a byte's place, a line, or a number of bytes */

@@ -10,7 +10,7 @@ use model::recording::{Gains, Kind, Recording, Signal};
 use model::settings::{GREATEST_CLOCK_OFFSET, GainSetting, ImbalanceSetting, Offset};
 use model::source::{Held, Noise, Seeds, Source};
 use model::stages::{
-    AddingNoise, Amplifier, AmplifierTable, ClockOffset, Converter, DcOffset, ENTRIES, Each, FrequencyOffset, Gain,
+    AddingNoise, AirGain, Amplifier, AmplifierTable, ClockOffset, Converter, DcOffset, ENTRIES, Each, FrequencyOffset, Gain,
     Imbalance, Lead, Multipath, Pairing, Path, ReceiveGain, Scaling,
 };
 use model::whole::{self, Whole};
@@ -117,6 +117,13 @@ impl<const BITS: u32> Pile<Sample<BITS>> {
 }
 
 impl Pile<AirSample> {
+    /// A fixed gain from air to air samples.
+    fn air_gain(self, shift: i16, factor: u16) -> Self {
+        let whole = whole::gain(GainSetting { shift, factor }, &self.whole);
+        let gain = AirGain(Gain::new(shift, factor));
+        self.stage(format!("gain ({shift}, {factor})"), |below| Each::new(gain, below), whole)
+    }
+
     fn adding_noise(self, second: Self) -> Self {
         let whole = whole::adding_noise(&self.whole, &second.whole);
         self.pair(second, "adding noise", |pairing| Each::new(AddingNoise, pairing), whole)
@@ -253,6 +260,7 @@ pub fn write(directory: &std::path::Path) -> Result<ExitCode, Failure> {
     write("receive-gain-noise-gain-fault", text(gain_over_noise(None, 100, Some(20)))?)?;
     write("receive-gain-noise-equal-faults", text(gain_over_noise(Some(23), 100, Some(20)))?)?;
     write("receive-gain-noise-ends-with-noise", text(gain_over_noise(Some(30), 21, Some(20)))?)?;
+    write("gain-gain", text(signal(40, None).scaling(4096).gain(17, 200).air_gain(-3, 201))?)?;
     write("receiver", text(receiver(None))?)?;
     write("receiver-fault", text(receiver(Some(30)))?)?;
 

@@ -192,7 +192,7 @@ fn amplified<const BITS: u32>(gain: GainSetting, x: Sample<BITS>) -> AirSample {
     clipped(floor(re * factor, 1 << 40), floor(im * factor, 1 << 40))
 }
 
-pub fn gain(gain: GainSetting, x: &Whole<WorkingSample>) -> Whole<AirSample> {
+pub fn gain<const BITS: u32>(gain: GainSetting, x: &Whole<Sample<BITS>>) -> Whole<AirSample> {
     x.tabulate(|k| amplified(gain, x.items[k]))
 }
 

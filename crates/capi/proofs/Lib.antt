@@ -1,3 +1,4 @@
 mod Listening
 mod Settling
 mod Handing
+mod Wanting

@@ -3,28 +3,26 @@ use Rattle.std.proofs.Common.{◌≡◌, ℕ, List, [], ◌∷◌, ◌++◌, Res
 use Rattle.std.specs.List.{AllZip}
 use Rattle.std.specs.Result.{IsErrAnd}
 use Rattle.lines.specs.Entries.{Holds, entries_of}
-use Rattle.lines.specs.declared.numbered.Numbered.{Numbered}
 use Rattle.link.specs.Fresh.{fresh}
 use Rattle.link.specs.declared.settings.Settings.{Settings}
 use Rattle.settings_file.specs.Files.{Makes, Stops, changed_by}
 use Rattle.settings_file.specs.Forms.{Says}
 use Rattle.settings_file.specs.declared.fault.LineFault.{LineFault}
-use Rattle.settings_file.specs.declared.setting.Setting.{Setting}
 use Rattle.capi.specs.declared.refusal.Input.TheVariants as inputs
 use Rattle.capi.specs.declared.refusal.Refusal.{Refusal}
 use Rattle.capi.specs.Texts.{MakesSettings, Settles, stopped_at}
 
-none_said : (said : List (Numbered Setting)) → AllZip (Holds Says) [] said → said ≡ []
-none_said [] h = refl
-none_said (one ∷ more) h = absurd h
+pub none_said : {E A : Type 0} (R : E → A → Type 0) (said : List A) → AllZip R [] said → said ≡ []
+none_said R [] h = refl
+none_said R (one ∷ more) h = absurd h
 
-no_entry : {A : Type 0} (before after : List A) (entry : A) → [] ≡ before ++ entry ∷ after → ⊥
+pub no_entry : {A : Type 0} (before after : List A) (entry : A) → [] ≡ before ++ entry ∷ after → ⊥
 no_entry [] after entry h = cc
 no_entry (x ∷ xs) after entry h = cc
 
 -- the empty text has no entries: it says no setting, and none of its lines stops it
 made_of_none : (made : Settings) → Makes (entries_of []) fresh made → made ≡ fresh
-made_of_none made h = h.made_is ∙ ap (λ said. changed_by said fresh) (none_said h.said h.hold)
+made_of_none made h = h.made_is ∙ ap (λ said. changed_by said fresh) (none_said (Holds Says) h.said h.hold)
 
 never_stopped : (fault : LineFault) → Stops (entries_of []) fault → ⊥
 never_stopped fault h = no_entry h.before h.after h.entry h.entries_are

@@ -3,14 +3,15 @@ use Rattle.std.specs.Prelude.{ℕ, ◌-◌, ◌^◌, cond, List, Ok, Err, Result
 use Rattle.source.specs.Streams.{Stream}
 use Rattle.wave.specs.declared.refusal.OpeningRefusal.{OpeningRefusal}
 use Rattle.recordings.specs.Opening.{Opened, signal_opening, gain_opening}
+use Rattle.recordings.specs.Pair.{input_number}
+use Rattle.recordings.specs.declared.pair.Input.{Input}
+use Rattle.recordings.specs.declared.pair.Input.TheVariants.{Signal, Gain}
 use Rattle.recorder.specs.Sessions.{taken, met}
-use Rattle.capi.specs.declared.refusal.Input.{Input}
-use Rattle.capi.specs.declared.refusal.Input.TheVariants.{Signal, Gain}
 use Rattle.capi.specs.declared.refusal.Refusal.{Refusal}
 use Rattle.capi.specs.declared.refusal.Refusal.TheVariants.{Opening, UnknownKind}
 use Rattle.capi.specs.declared.report.Heard.{Heard}
 use Rattle.capi.specs.declared.report.Report.{Report}
-use Rattle.capi.specs.Reports.{heard_report, input_number}
+use Rattle.capi.specs.Reports.{heard_report}
 
 -- n items of the stream are wanted
 abbrev pub heard_of : {T : Type 0} → ℕ → Stream T → Heard
@@ -22,8 +23,8 @@ most = 2 ^ 32 - 1
 
 -- an opened recording, counted to its end
 abbrev pub examined : {T : Type 0} → Input → Result (Opened T) OpeningRefusal → Result Report Refusal
-examined input (Ok o) = Ok (heard_report o.rate (heard_of most o.whole))
-examined input (Err e) = Err (Opening input e)
+examined which (Ok o) = Ok (heard_report o.rate (heard_of most o.whole))
+examined which (Err e) = Err (Opening which e)
 
 -- the bytes, opened as the kind of recording that has this number
 abbrev pub open_answer : ℕ → List ℕ → Result Report Refusal

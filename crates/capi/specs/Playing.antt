@@ -8,14 +8,14 @@ use Rattle.link.specs.declared.settings.Settings.{Settings}
 use Rattle.chain.specs.Chains.{played}
 use Rattle.player.specs.Plain.{plain_buffer}
 use Rattle.wave.specs.declared.refusal.OpeningRefusal.{OpeningRefusal}
-use Rattle.recordings.specs.Opening.{Opened, signal_opening, gain_opening}
-use Rattle.capi.specs.declared.refusal.Input.TheVariants.{Signal, Gain}
+use Rattle.recordings.specs.Opening.{Opened}
+use Rattle.recordings.specs.Pair.{link_opening}
+use Rattle.recordings.specs.declared.pair.Input as pair
 use Rattle.capi.specs.declared.refusal.Refusal.{Refusal}
-use Rattle.capi.specs.declared.refusal.Refusal.TheVariants.{Opening}
 use Rattle.capi.specs.declared.iq.Iq.{Iq}
 use Rattle.capi.specs.declared.report.Report.{Report}
 use Rattle.capi.specs.Hearing.{heard_of}
-use Rattle.capi.specs.Reports.{heard_report, input_number, status, told}
+use Rattle.capi.specs.Reports.{heard_report, opening_of, status, told}
 use Rattle.capi.specs.Texts.{Settles}
 
 -- the two parts of a sample
@@ -26,26 +26,28 @@ parts x = record { re = x.re; im = x.im }
 abbrev pub filled_from : Stream ConverterSample → List Iq → List Iq
 filled_from w out = plain_buffer (each parts w) 0 out
 
--- both recordings opened; the signal is tested first
-abbrev pub play_opened : Settings → Result (Opened ConverterSample) OpeningRefusal → Result (Opened GainIndex) OpeningRefusal → ℕ → Result Report Refusal
-play_opened s (Err e) gain n = Err (Opening Signal e)
-play_opened s (Ok signal) (Err e) n = Err (Opening Gain e)
-play_opened s (Ok signal) (Ok gain) n = Ok (heard_report signal.rate (heard_of n (played s signal.whole gain.whole)))
+-- both recordings, opened, or the first that does not open
+abbrev pub BothOpened : Type 0
+BothOpened = Result (Opened ConverterSample × Opened GainIndex) (pair.Input × OpeningRefusal)
+
+-- n samples of the chain over both are wanted
+abbrev pub play_opened : Settings → BothOpened → ℕ → Result Report Refusal
+play_opened s (Err refused) n = Err (opening_of refused)
+play_opened s (Ok both) n = Ok (heard_report both.0.rate (heard_of n (played s both.0.whole both.1.whole)))
 
 -- the buffer then; where a recording does not open, it is as it was
-abbrev pub after_opened : Settings → Result (Opened ConverterSample) OpeningRefusal → Result (Opened GainIndex) OpeningRefusal → List Iq → List Iq
-after_opened s (Err e) gain out = out
-after_opened s (Ok signal) (Err e) out = out
-after_opened s (Ok signal) (Ok gain) out = filled_from (played s signal.whole gain.whole) out
+abbrev pub after_opened : Settings → BothOpened → List Iq → List Iq
+after_opened s (Err refused) out = out
+after_opened s (Ok both) out = filled_from (played s both.0.whole both.1.whole) out
 
 -- n samples of the chain over these bytes are wanted; settings that are refused are the answer
 abbrev pub play_answer : Result Settings Refusal → List ℕ → List ℕ → ℕ → Result Report Refusal
 play_answer (Err e) signal gain n = Err e
-play_answer (Ok s) signal gain n = play_opened s (signal_opening (input_number Signal) signal) (gain_opening (input_number Gain) gain) n
+play_answer (Ok s) signal gain n = play_opened s (link_opening signal gain) n
 
 abbrev pub after_play : Result Settings Refusal → List ℕ → List ℕ → List Iq → List Iq
 after_play (Err e) signal gain out = out
-after_play (Ok s) signal gain out = after_opened s (signal_opening (input_number Signal) signal) (gain_opening (input_number Gain) gain) out
+after_play (Ok s) signal gain out = after_opened s (link_opening signal gain) out
 
 -- A call that plays answers and leaves its buffer as the formulas have it, for the settings that the text makes.
 pub record PlaysChain (text signal gain : List ℕ) (out after : List Iq) (report : Report) (answer : ℕ) : Type 0 where

@@ -1,40 +1,38 @@
 -- A text of answers, put into the caller's buffer.
-use Rattle.std.specs.Prelude.{◌≡◌, ℕ, cond, List, length, map, None, Ok, Err, string_bytes, Result, nat_le}
+use Rattle.std.specs.Prelude.{◌≡◌, ◌≢◌, ℕ, cond, List, [], length, None, Ok, Err, string_bytes, Result, nat_le}
 use Rattle.samples.specs.declared.converter.ConverterSample.{ConverterSample}
-use Rattle.samples.specs.declared.gain_index.GainIndex.{GainIndex}
 use Rattle.source.specs.Streams.{Stream}
 use Rattle.link.specs.declared.settings.Settings.{Settings}
 use Rattle.chain.specs.Chains.{played}
 use Rattle.player.specs.Plain.{plain_run}
+use Rattle.lines.specs.Entries.{entries_of}
 use Rattle.lines.specs.declared.numbered.Numbered.{Numbered}
 use Rattle.transcript.specs.Answers.{answer_lines}
-use Rattle.transcript.specs.Steps.{call_of}
+use Rattle.transcript.specs.Steps.{asked_by}
 use Rattle.transcript.specs.declared.step.Step.{Step}
 use Rattle.wave.specs.Bytes.{overwrite}
-use Rattle.wave.specs.declared.refusal.OpeningRefusal.{OpeningRefusal}
-use Rattle.recordings.specs.Opening.{Opened}
 use Rattle.recordings.specs.Pair.{link_opening}
-use Rattle.recordings.specs.declared.pair.Input as pair
 use Rattle.capi.specs.declared.refusal.Refusal.{Refusal}
 use Rattle.capi.specs.declared.refusal.Refusal.TheVariants.{Memory, Room}
 use Rattle.capi.specs.declared.report.Report.{Report}
 use Rattle.capi.specs.declared.written.Transcript.{Transcript}
+use Rattle.capi.specs.Playing.{BothOpened}
 use Rattle.capi.specs.Reports.{items_report, opening_of, status, told}
 use Rattle.capi.specs.Texts.{SaysSteps, Settles}
 
 -- the lines that tell what the plain player of a whole answers to the steps
 abbrev pub run_text : Stream ConverterSample → List (Numbered Step) → List ℕ
-run_text w steps = answer_lines steps (plain_run w 0 (map (λ step. call_of step.held) steps))
+run_text w steps = answer_lines steps (plain_run w 0 (asked_by steps))
 
--- these bytes are written, at the rate; or there was no memory for them
-abbrev pub Writes : ℕ → List ℕ → Result Transcript Refusal → Type 0
-Writes rate text (Ok t) = (t.rate ≡ rate) × (string_bytes t.text ≡ text)
-Writes rate text (Err e) = e ≡ Memory
+-- these bytes tell the steps, and are written, at the rate; or there was no memory for them; where there are no steps, none is needed
+abbrev pub Writes : List (Numbered Step) → ℕ → List ℕ → Result Transcript Refusal → Type 0
+Writes steps rate text (Ok t) = (t.rate ≡ rate) × (string_bytes t.text ≡ text)
+Writes steps rate text (Err e) = (e ≡ Memory) × (steps ≢ [])
 
 -- the steps over both recordings, opened
-abbrev pub TellsOpened : Settings → List (Numbered Step) → Result (Opened ConverterSample × Opened GainIndex) (pair.Input × OpeningRefusal) → Result Transcript Refusal → Type 0
+abbrev pub TellsOpened : Settings → List (Numbered Step) → BothOpened → Result Transcript Refusal → Type 0
 TellsOpened s steps (Err refused) t = t ≡ Err (opening_of refused)
-TellsOpened s steps (Ok both) t = Writes both.0.rate (run_text (played s both.0.whole both.1.whole) steps) t
+TellsOpened s steps (Ok both) t = Writes steps both.0.rate (run_text (played s both.0.whole both.1.whole) steps) t
 
 -- the steps that a text says, or why it says none
 abbrev pub TellsSteps : Settings → Result (List (Numbered Step)) Refusal → List ℕ → List ℕ → Result Transcript Refusal → Type 0
@@ -47,11 +45,12 @@ Tells (Err e) calls signal gain t = t ≡ Err e
 Tells (Ok s) calls signal gain t = (steps : Result (List (Numbered Step)) Refusal) × SaysSteps calls steps × TellsSteps s steps signal gain t
 
 -- What the calls of one text tell, on the chain that the settings of another make: settings are tested first, then calls, then
--- the signal, then the gain recording.
+-- the signal, then the gain recording. Want of memory is told only where one of the texts has an entry.
 pub record Replayed (settings calls signal gain : List ℕ) (transcript : Result Transcript Refusal) : Type 0 where
   pub made : Result Settings Refusal
   pub settled : Settles settings made
   pub tells : Tells made calls signal gain transcript
+  pub memory : entries_of settings ≡ [] → entries_of calls ≡ [] → transcript ≢ Err Memory
 
 -- the text in a buffer of len bytes: its length, or how many bytes are needed
 abbrev pub put_answer : List ℕ → ℕ → Result ℕ Refusal

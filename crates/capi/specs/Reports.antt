@@ -4,48 +4,50 @@ use Rattle.source.specs.Faults.{fault_number}
 use Rattle.link.specs.Refusals.{setting_number}
 use Rattle.wave.specs.Refusals.{opening_number, opening_place}
 use Rattle.wave.specs.declared.refusal.OpeningRefusal.{OpeningRefusal}
+use Rattle.recordings.specs.Pair as recordings
 use Rattle.recordings.specs.declared.pair.Input as pair
-use Rattle.recordings.specs.declared.pair.Input.TheVariants as links
 use Rattle.capi.specs.declared.refusal.Input.{Input}
-use Rattle.capi.specs.declared.refusal.Input.TheVariants.{Signal, Gain, Settings, Calls}
+use Rattle.capi.specs.declared.refusal.Input.TheVariants.{Recording, Settings, Calls}
 use Rattle.capi.specs.declared.refusal.Refusal.{Refusal}
 use Rattle.capi.specs.declared.refusal.Refusal.TheVariants.{Opening, Setting, UnknownKind, WrongLine, Memory, Room}
 use Rattle.capi.specs.declared.report.Heard.{Heard}
 use Rattle.capi.specs.declared.report.Report.{Report}
 use Rattle.source.specs.Streams.{Ending}
 
--- the number by which a report names an input
+-- the number by which a report names an input: recordings as their faults name them, up to 255; texts from 256 on
 abbrev pub input_number : Input → ℕ
-input_number Signal = 0
-input_number Gain = 1
-input_number Settings = 2
-input_number Calls = 3
+input_number (Recording which) = recordings.input_number which
+input_number Settings = 256
+input_number Calls = 257
 
 -- the refusal of a recording that does not open
 abbrev pub opening_of : pair.Input × OpeningRefusal → Refusal
-opening_of (links.Signal, e) = Opening Signal e
-opening_of (links.Gain, e) = Opening Gain e
+opening_of (which, e) = Opening which e
 
 -- the status that tells a refusal
 abbrev pub refusal_number : Refusal → ℕ
-refusal_number (Opening input e) = opening_number e
+refusal_number (Opening which e) = opening_number e
 refusal_number (Setting line e) = setting_number e
 refusal_number UnknownKind = 64
 refusal_number (WrongLine input line) = 65
 refusal_number Memory = 66
 refusal_number (Room needed) = 67
 
--- the report of a refusal: the input, and the place in it
-abbrev pub refused_report : Input → ℕ → Report
-refused_report input place = record { rate = 0; ended = 0; fault = 0; input = input_number input; items = 0; item = 0; place = place }
+-- the report of a refusal: the number of the input, and the place in it
+abbrev pub refused_report : ℕ → ℕ → Report
+refused_report input place = record { rate = 0; ended = 0; fault = 0; input = input; items = 0; item = 0; place = place }
+
+-- the input's number where no input is meant
+abbrev pub no_input : ℕ
+no_input = 0
 
 abbrev pub refusal_report : Refusal → Report
-refusal_report (Opening input e) = refused_report input (opening_place e)
-refusal_report (Setting line e) = refused_report Settings line
-refusal_report UnknownKind = refused_report Signal 0
-refusal_report (WrongLine input line) = refused_report input line
-refusal_report Memory = refused_report Signal 0
-refusal_report (Room needed) = refused_report Signal needed
+refusal_report (Opening which e) = refused_report (input_number (Recording which)) (opening_place e)
+refusal_report (Setting line e) = refused_report (input_number Settings) line
+refusal_report UnknownKind = refused_report no_input 0
+refusal_report (WrongLine input line) = refused_report (input_number input) line
+refusal_report Memory = refused_report no_input 0
+refusal_report (Room needed) = refused_report no_input needed
 
 -- the report of n items, which end so, if the end was met
 abbrev pub items_report : ℕ → ℕ → Option Ending → Report

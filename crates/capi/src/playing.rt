@@ -1,7 +1,7 @@
 // Playing the standard chain.
 ghost use Rattle.std.specs.Prelude.{◌≡◌, length};
 ghost use Rattle.chain.specs.Chains.{played};
-ghost use Rattle.recordings.specs.Opening.{signal_opening, gain_opening};
+ghost use Rattle.recordings.specs.Pair.{link_opening};
 ghost use Rattle.capi.specs.Hearing.{heard_of};
 ghost use Rattle.capi.specs.Playing.{filled_from, play_opened, after_opened, play_answer, after_play, PlaysChain};
 
@@ -25,8 +25,10 @@ fn play_chain<S: Source<Item = ConverterSample> + Drop, G: Source<Item = GainInd
     indices: G,
     out: &mut [Iq],
 ) -> Heard
-    ensures answer { result ≡ heard_of (length out.old) (played settings.now (S.Source.whole signal) (G.Source.whole indices)) }
-    ensures buffer { out.new ≡ filled_from (played settings.now (S.Source.whole signal) (G.Source.whole indices)) out.old }
+    ensures heard { let w = played settings.now (S.Source.whole signal) (G.Source.whole indices) in
+        result ≡ heard_of (length out.old) w }
+    ensures after { let w = played settings.now (S.Source.whole signal) (G.Source.whole indices) in
+        out.new ≡ filled_from w out.old }
 {
     let chain = standard_chain(settings, signal, indices);
     listen(chain, out)
@@ -39,8 +41,9 @@ fn play_recordings(
     gain: &[u8],
     out: &mut [Iq],
 ) -> Result<Report, Refusal>
-    ensures answer { result ≡ play_opened settings.now (signal_opening 0 signal.now) (gain_opening 1 gain.now) (length out.old) }
-    ensures buffer { out.new ≡ after_opened settings.now (signal_opening 0 signal.now) (gain_opening 1 gain.now) out.old }
+    ensures answer { let opened = link_opening signal.now gain.now in
+        result ≡ play_opened settings.now opened (length out.old) }
+    ensures buffer { out.new ≡ after_opened settings.now (link_opening signal.now gain.now) out.old }
 {
     let LinkRecordings { signal, gain } = LinkRecordings::open(signal, gain)?;
     let rate = signal.rate();
@@ -61,8 +64,10 @@ fn play(
     play_recordings(&settings?, signal, gain, out)
 }
 
-// Plays the standard chain over a signal and a gain recording, with the settings of the text, from its start until the
-// buffer is full or the chain ends.
+/// Plays the standard chain over a signal and a gain recording, with the settings of the text, from its start until the
+/// buffer is full or the chain ends. The report has the signal's rate, how many samples came, and the ending if it is met.
+/// Refused for the first line of the settings that is wrong (65) or refused (1 to 7, 13), for want of memory (66), and for
+/// bytes that do not open (8 to 11), the signal's before the gain's; the buffer then stays as it was.
 #[unsafe(no_mangle)]
 pub extern "C" fn tigwedan_play(
     heap: Global,

@@ -9,48 +9,53 @@ use recordings::pair;
 use std::alloc::AllocError;
 use wave::refusal::OpeningRefusal;
 
-// What is handed in. Not the pair's: texts are handed in too, with numbers of their own.
+/// What is handed in: a recording of the link, or a text.
 #[derive(Clone, Copy)]
 pub enum Input {
-    Signal,
-    Gain,
+    /// The bytes of one of the two recordings.
+    Recording(pair::Input),
+    /// The text of settings, one a line.
     Settings,
+    /// The text of calls, one a line.
     Calls,
 }
 
 impl Input {
-    // The number by which a report names it.
-    pub fn number(self) -> u8
+    /// The number by which a report names it: of a recording that by which its faults name it, 0 to 255; of a text 256
+    /// or 257, since sources that others write may use any number up to 255.
+    pub fn number(self) -> u32
         ensures { result ≡ input_number self }
     {
         match self {
-            Input::Signal => 0,
-            Input::Gain => 1,
-            Input::Settings => 2,
-            Input::Calls => 3,
+            Input::Recording(recording) => recording.number() as u32,
+            Input::Settings => 256,
+            Input::Calls => 257,
         }
     }
 }
 
-// Lines are counted from 1.
+/// Why a call is refused. Lines are counted from 1.
 #[derive(Clone, Copy)]
 pub enum Refusal {
-    // The bytes of a recording do not open.
-    Opening(Input, OpeningRefusal),
-    // A line of the settings has numbers that are refused.
+    /// The bytes of a recording do not open.
+    Opening(pair::Input, OpeningRefusal),
+    /// A line of the settings has numbers that are refused.
     Setting(u64, SettingRefusal),
-    // There is no such kind of recording.
+    /// There is no such kind of recording.
     UnknownKind,
-    // A line is no setting, or no call.
+    /// A line is no setting, or no call.
     WrongLine(Input, u64),
-    // There is not enough memory.
+    /// There is not enough memory.
     Memory,
-    // The buffer is too short for what is to be written; how many bytes it needs.
+    /// The buffer is too short for what is to be written; how many bytes it needs.
     Room(u64),
 }
 
+// The report's input where none is meant.
+const NO_INPUT: u32 = 0;
+
 impl Refusal {
-    // The status that tells it.
+    /// The status that tells it: 1 to 13 of a setting or a recording, 64 to 67 of the call itself.
     pub fn number(self) -> u32
         ensures { result ≡ refusal_number self }
     {
@@ -64,17 +69,20 @@ impl Refusal {
         }
     }
 
-    // The report that goes with it.
+    /// The report that goes with it: the number of the input, and the place in it; every other field is 0. The input is 0
+    /// also where none is meant.
     pub fn report(self) -> Report
         ensures { result ≡ refusal_report self }
     {
         match self {
-            Refusal::Opening(input, refusal) => { Report::refused(input, refusal.place() as u64) }
-            Refusal::Setting(line, _) => Report::refused(Input::Settings, line),
-            Refusal::WrongLine(input, line) => Report::refused(input, line),
-            Refusal::Room(needed) => Report::refused(Input::Signal, needed),
-            Refusal::UnknownKind => Report::refused(Input::Signal, 0),
-            Refusal::Memory => Report::refused(Input::Signal, 0),
+            Refusal::Opening(recording, refusal) => {
+                Report::refused(Input::Recording(recording).number(), refusal.place() as u64)
+            }
+            Refusal::Setting(line, _) => Report::refused(Input::Settings.number(), line),
+            Refusal::WrongLine(input, line) => Report::refused(input.number(), line),
+            Refusal::Room(needed) => Report::refused(NO_INPUT, needed),
+            Refusal::UnknownKind => Report::refused(NO_INPUT, 0),
+            Refusal::Memory => Report::refused(NO_INPUT, 0),
         }
     }
 }
@@ -83,11 +91,8 @@ impl From<(pair::Input, OpeningRefusal)> for Refusal {
     ghost from_gives = { λ refused r. r ≡ opening_of refused };
 
     fn from(refused: (pair::Input, OpeningRefusal)) -> Refusal {
-        let (input, refusal) = refused;
-        match input {
-            pair::Input::Signal => Refusal::Opening(Input::Signal, refusal),
-            pair::Input::Gain => Refusal::Opening(Input::Gain, refusal),
-        }
+        let (recording, refusal) = refused;
+        Refusal::Opening(recording, refusal)
     }
 }
 

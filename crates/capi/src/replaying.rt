@@ -1,5 +1,5 @@
 // Making calls on a player of the standard chain, each answered by a line of text.
-ghost use Rattle.std.specs.Prelude.{◌≡◌, length, string_bytes, Ok, Err, IfOk, MatchResult};
+ghost use Rattle.std.specs.Prelude.{◌≡◌, ◌≢◌, [], length, string_bytes, Ok, Err, MatchResult};
 ghost use Rattle.chain.specs.Chains.{played};
 ghost use Rattle.recordings.specs.Pair.{link_opening};
 ghost use Rattle.capi.specs.Replaying.{run_text, TellsOpened, Replayed, put_answer, after_put, replay_answer, after_replay, Replays};
@@ -22,7 +22,7 @@ use std::alloc::{AllocError, Global};
 use transcript::answers::AnswerLines;
 use transcript::step::{Step, calls_of};
 
-// Makes the calls on one player over the chain: a line for each answer.
+// Makes the calls on one player over the chain: a line for each answer. Where there are no calls, no memory is taken.
 fn replay_chain<S: Source<Item = ConverterSample> + Drop, G: Source<Item = GainIndex> + Drop>(
     heap: Global,
     settings: &Settings,
@@ -30,8 +30,14 @@ fn replay_chain<S: Source<Item = ConverterSample> + Drop, G: Source<Item = GainI
     indices: G,
     steps: &[Numbered<Step>],
 ) -> Result<String, AllocError>
-    ensures { IfOk result (λ text. string_bytes text ≡ run_text (played settings.now (S.Source.whole signal) (G.Source.whole indices)) steps.now) }
+    ensures { let whole = played settings.now (S.Source.whole signal) (G.Source.whole indices) in
+        MatchResult result
+        (λ text. string_bytes text ≡ run_text whole steps.now)
+        (λ _. steps.now ≢ []) }
 {
+    if steps.is_empty() {
+        return Ok(String::new(heap));
+    }
     let calls = calls_of(heap, steps)?;
     let answers = standard_run(heap, settings, signal, indices, calls)?;
     let lines = AnswerLines {
@@ -59,7 +65,9 @@ fn replay_recordings(
 
 // The steps that a text says.
 fn steps_of(heap: Global, text: &[u8]) -> Result<Vec<Numbered<Step>>, Refusal>
-    ensures { MatchResult result (λ steps. SaysSteps text.now (Ok steps.items)) (λ e. SaysSteps text.now (Err e)) }
+    ensures { MatchResult result
+        (λ steps. SaysSteps text.now (Ok steps.items))
+        (λ e. SaysSteps text.now (Err e)) }
 {
     read_all(heap, text).map_err(|wrong| refusal_of(Input::Calls, LineFault::from(wrong)))
 }
@@ -101,7 +109,10 @@ fn deliver(transcript: Result<Transcript, Refusal>, out: &mut [u8]) -> Result<Re
     Ok(Report::heard(rate, Heard { items, ending }))
 }
 
-// Makes the calls of the text on one player over the standard chain, and writes a line for each answer.
+/// Makes the calls of the text on one player over the standard chain, and writes a line for each answer. The report has the
+/// signal's rate and how many bytes were written. Refused for the first wrong line of the settings or the calls (65), a
+/// setting out of its range (1 to 7, 13), for want of memory (66), for bytes that do not open (8 to 11), and for a buffer
+/// that is too short for all lines (67, with the bytes that it needs); the buffer then stays as it was.
 #[unsafe(no_mangle)]
 pub extern "C" fn tigwedan_replay(
     heap: Global,

@@ -2,33 +2,35 @@
 ghost use Rattle.std.specs.Prelude.{◌≡◌};
 ghost use Rattle.capi.specs.Reports.{heard_report, refused_report};
 
-use crate::refusal::Input;
 use source::fault::Ending;
 
-// The fields that a call has nothing to tell of are 0. Numbers throughout: C has no enums of ours.
+/// What a call tells beside its status, with the fields of `struct tigwedan_report` in their order. Fields that a call has
+/// nothing to tell of are 0. Numbers throughout: C has no enums of ours.
 #[repr(C)]
 #[derive(Clone, Copy)]
 pub struct Report {
-    // Samples a second, of the signal or of what was opened.
+    /// Samples a second, of the signal or of what was opened.
     pub rate: u32,
-    // 1 if the end of the items was met, else 0.
+    /// 1 if the end of the items was met, else 0.
     pub ended: u32,
-    // The number of the fault with which the items end, or 0.
+    /// The number of the fault with which the items end, or 0.
     pub fault: u32,
-    // The number of the input that has the fault, or that is refused.
+    /// The number of the input that has the fault, or that is refused: 0 to 255 of a recording, 256 or 257 of a text.
     pub input: u32,
-    // How many items came.
+    /// How many items came, or how many bytes were written.
     pub items: u64,
-    // The place of the fault's item in its input, from 0.
+    /// The place of the fault's item in its input, from 0.
     pub item: u64,
-    // Of a refusal: the byte's place, or the line, counted from 1, or how many bytes are needed.
+    /// Of a refusal: the byte's place, or the line, counted from 1, or how many bytes are needed.
     pub place: u64,
 }
 
-// How many items came, and how the items end, if the end was met.
+/// How many items came, and how the items end, if the end was met.
 #[derive(Clone, Copy)]
 pub struct Heard {
+    /// How many items came.
     pub items: u64,
+    /// How they end; none if no more items were wanted than came.
     pub ending: Option<Ending>,
 }
 
@@ -65,11 +67,11 @@ impl Report {
         }
     }
 
-    pub(crate) fn refused(input: Input, place: u64) -> Report
+    pub(crate) fn refused(input: u32, place: u64) -> Report
         ensures { result ≡ refused_report input place }
     {
         Report {
-            input: input.number() as u32,
+            input,
             place,
             ..NOTHING
         }

@@ -1,54 +1,36 @@
 -- The standard chain: from the settings and the wholes of the signal and of the gain indices to its whole.
-use Rattle.std.specs.Prelude.{List, pos}
+use Rattle.std.specs.Prelude.{pos}
 use Rattle.samples.specs.Kinds.{gain_index}
 use Rattle.samples.specs.declared.converter.ConverterSample.{ConverterSample}
 use Rattle.samples.specs.declared.gain_index.GainIndex.{GainIndex}
-use Rattle.samples.specs.declared.kinds.AirSample.{AirSample}
 use Rattle.samples.specs.declared.kinds.WorkingSample.{WorkingSample}
 use Rattle.source.specs.Streams.{Stream}
 use Rattle.stages.specs.Clock.{clocked, clock_step}
 use Rattle.stages.specs.Wholes.{each, remade, paired, led}
-use Rattle.impairments.specs.Levels.{scaled}
-use Rattle.impairments.specs.Multipath.{silence}
+use Rattle.impairments.specs.Levels.{scaled, quantized}
+use Rattle.impairments.specs.Multipath.{echoes, used, silence}
 use Rattle.link.specs.declared.settings.Settings.{Settings}
-use Rattle.chain.specs.Formulas.{transmitting, propagating, channel_gained, added, receiving, all_noise}
+use Rattle.turns.specs.Frequency.{frequency_offset}
+use Rattle.chain.specs.Formulas.{working_offset, working_balanced, air_offset, air_balanced, amplified_unless, channel_gained, added, receive_gained, all_noise}
 
--- scaling
-abbrev pub driven : Settings → Stream ConverterSample → Stream WorkingSample
-driven s = each (scaled s.scale.factor)
-
--- DC offset, imbalance, amplifier
-abbrev pub transmitter : Settings → WorkingSample → WorkingSample
-transmitter s = transmitting s.tx_dc s.tx_imbalance s.amplifier_bypass s.amplifier
-
--- multipath, frequency offset
-abbrev pub propagated : Settings → List WorkingSample → List WorkingSample
-propagated s = propagating s.paths silence 0 s.frequency.f
-
--- transmitter, multipath, frequency offset, clock offset, gain
-abbrev pub sent : Settings → Stream WorkingSample → Stream AirSample
-sent s w =
-    each (channel_gained s.gain)
-    (clocked s.clock_bypass (clock_step s.clock.c)
-    (remade (propagated s)
-    (each (transmitter s) w)))
-
--- noise added
-abbrev pub noisy : Settings → Stream AirSample → Stream AirSample
-noisy s w = each added (paired w (all_noise s.seeds.re s.seeds.im))
-
--- receive gain, DC offset, imbalance, converter
-abbrev pub receiver : Settings → AirSample × GainIndex → ConverterSample
-receiver s = receiving s.receive_gains s.rx_dc s.rx_imbalance
-
--- the receiver, with the gain indices behind a lead of index 0
-abbrev pub received : Settings → Stream AirSample → Stream GainIndex → Stream ConverterSample
-received s w indices = each (receiver s) (paired w (led s.lead (gain_index (pos 0)) indices))
-
--- the chain over working samples
+-- The chain over working samples, stage by stage: DC offset, imbalance, amplifier, multipath, frequency offset, clock offset,
+-- gain, noise, the gain indices behind a lead of index 0, receive gain, DC offset, imbalance, converter.
 abbrev pub linked : Settings → Stream WorkingSample → Stream GainIndex → Stream ConverterSample
-linked s w indices = received s (noisy s (sent s w)) indices
+linked s signal indices =
+    let shifted = each (working_offset s.tx_dc) signal in
+    let balanced = each (working_balanced s.tx_imbalance) shifted in
+    let amplified = each (amplified_unless s.amplifier_bypass s.amplifier) balanced in
+    let echoed = remade (echoes (used s.paths) silence) amplified in
+    let turned = remade (frequency_offset 0 s.frequency.f) echoed in
+    let resampled = clocked s.clock_bypass (clock_step s.clock.c) turned in
+    let on_air = each (channel_gained s.gain) resampled in
+    let noisy = each added (paired on_air (all_noise s.seeds.re s.seeds.im)) in
+    let chosen = led s.lead (gain_index (pos 0)) indices in
+    let received = each (receive_gained s.receive_gains) (paired noisy chosen) in
+    let rx_shifted = each (air_offset s.rx_dc) received in
+    let rx_balanced = each (air_balanced s.rx_imbalance) rx_shifted in
+    each quantized rx_balanced
 
--- the standard chain, over a signal of converter samples
+-- the standard chain, over a signal of converter samples: scaling before all
 abbrev pub played : Settings → Stream ConverterSample → Stream GainIndex → Stream ConverterSample
-played s signal indices = linked s (driven s signal) indices
+played s signal indices = linked s (each (scaled s.scale.factor) signal) indices

@@ -1,20 +1,16 @@
--- The formulas of the standard chain's stages at the kinds that they have there, and of those that stand in a row.
-use Rattle.std.specs.Prelude.{ℕ, ◌-◌, ◌^◌, Bool, cond, List, ℤ}
+-- The formulas of the standard chain's stages at the kinds that they have there.
+use Rattle.std.specs.Prelude.{ℕ, ◌-◌, ◌^◌, Bool, cond, List}
 use Rattle.samples.specs.Kinds.{working, air}
-use Rattle.samples.specs.declared.converter.ConverterSample.{ConverterSample}
 use Rattle.samples.specs.declared.gain_index.GainIndex.{GainIndex}
 use Rattle.samples.specs.declared.kinds.AirSample.{AirSample}
 use Rattle.samples.specs.declared.kinds.WorkingSample.{WorkingSample}
 use Rattle.source.specs.Streams.{Stream}
 use Rattle.stages.specs.Noise.{noise}
-use Rattle.impairments.specs.Levels.{offset_by, balanced, gained, chosen, summed, quantized}
-use Rattle.impairments.specs.Multipath.{echoes, used}
+use Rattle.impairments.specs.Levels.{offset_by, balanced, gained, chosen, summed}
 use Rattle.impairments.specs.declared.balance.Balance.{Balance}
 use Rattle.impairments.specs.declared.gain.Gain.{Gain}
 use Rattle.impairments.specs.declared.offset.Offset.{Offset}
-use Rattle.impairments.specs.declared.paths.Paths.{Paths}
 use Rattle.turns.specs.Amplifier.{amplified}
-use Rattle.turns.specs.Frequency.{frequency_offset}
 use Rattle.turns.specs.declared.table.AmplifierTable.{AmplifierTable}
 
 -- DC offset and imbalance at 16 bits, which the transmitter has
@@ -35,14 +31,6 @@ air_balanced m x = balanced air m x.re x.im
 abbrev pub amplified_unless : Bool → AmplifierTable → WorkingSample → WorkingSample
 amplified_unless bypassed t x = cond bypassed x (amplified t.entries x)
 
--- DC offset o, imbalance m, amplifier with table t
-unfoldable pub transmitting : Offset → Balance → Bool → AmplifierTable → WorkingSample → WorkingSample
-transmitting o m bypassed t x = amplified_unless bypassed t (working_balanced m (working_offset o x))
-
--- multipath, then frequency offset, from any echo line h and any phase p
-unfoldable pub propagating : Paths → (ℕ → WorkingSample) → ℕ → ℤ → List WorkingSample → List WorkingSample
-propagating paths h p f xs = frequency_offset p f (echoes (used paths) h xs)
-
 -- the channel's gain
 abbrev pub channel_gained : Gain → WorkingSample → AirSample
 channel_gained g x = gained g x.re x.im
@@ -54,10 +42,6 @@ added x = summed x.0 x.1
 -- the gain that the index beside a sample chooses
 abbrev pub receive_gained : List Gain → AirSample × GainIndex → AirSample
 receive_gained gains x = gained (chosen gains x.1) x.0.re x.0.im
-
--- the gain of an index, DC offset o, imbalance m, converter
-unfoldable pub receiving : List Gain → Offset → Balance → AirSample × GainIndex → ConverterSample
-receiving gains o m x = quantized (air_balanced m (air_offset o (receive_gained gains x)))
 
 -- all the noise of the chain: 2 ^ 32 - 1 items
 unfoldable pub all_noise : ℕ → ℕ → Stream AirSample

@@ -1,4 +1,3 @@
 pub mod Formulas
 pub mod Chains
-pub mod Parts
 pub mod Meanings

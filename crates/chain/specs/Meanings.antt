@@ -4,40 +4,53 @@ use Rattle.samples.specs.declared.gain_index.GainIndex.{GainIndex}
 use Rattle.samples.specs.declared.kinds.WorkingSample.{WorkingSample}
 use Rattle.source.specs.Streams.{Stream}
 use Rattle.stages.specs.Meanings.{each_whole, each_left, scan_whole, scan_left, clock_whole, clock_left, pairing_whole, pairing_left, lead_whole, lead_left, noise_whole, noise_left}
-use Rattle.impairments.specs.Levels.{scaled}
+use Rattle.impairments.specs.Levels.{scaled, quantized}
+use Rattle.impairments.specs.Multipath.{echoes, used, silence, ring}
 use Rattle.impairments.specs.declared.scaling.Scaling.{Scaling}
 use Rattle.stages.specs.declared.each.Each.{Each}
-use Rattle.chain.specs.Formulas.{channel_gained, added}
-use Rattle.chain.specs.Parts.{transmitter_formula, propagation_makes, propagation_fresh, receiver_formula}
+use Rattle.turns.specs.Frequency.{frequency_offset}
+use Rattle.chain.specs.Formulas.{working_offset, working_balanced, air_offset, air_balanced, amplified_unless, channel_gained, added, receive_gained}
 use Rattle.chain.specs.declared.standard.Link.{Link}
 
 -- the chain over working samples
 abbrev pub link_whole : {S G : Type 0} → (S → Stream WorkingSample) → (G → Stream GainIndex) → Link S G → Stream ConverterSample
 link_whole whole indices s =
-    each_whole receiver_formula
+    each_whole (λ m. quantized)
+    (each_whole (λ m. air_balanced m.balance)
+    (each_whole (λ m. air_offset m.offset)
+    (each_whole (λ m. receive_gained m.gains)
     (pairing_whole
     (each_whole (λ m. added)
     (pairing_whole
     (each_whole (λ m. channel_gained m.gain)
     (clock_whole
-    (scan_whole propagation_fresh
-    (each_whole transmitter_formula whole))))
+    (scan_whole (λ m. frequency_offset 0 m.offset.f)
+    (scan_whole (λ m xs. echoes (used m.paths) silence xs)
+    (each_whole (λ m. amplified_unless m.bypassed m.table)
+    (each_whole (λ m. working_balanced m.balance)
+    (each_whole (λ m. working_offset m.offset) whole)))))))
     noise_whole))
-    (lead_whole indices))
+    (lead_whole indices)))))
     s.stages
 
 abbrev pub link_left : {S G : Type 0} → (S → Stream WorkingSample) → (G → Stream GainIndex) → Link S G → Stream ConverterSample
 link_left left indices s =
-    each_left receiver_formula
+    each_left (λ m. quantized)
+    (each_left (λ m. air_balanced m.balance)
+    (each_left (λ m. air_offset m.offset)
+    (each_left (λ m. receive_gained m.gains)
     (pairing_left
     (each_left (λ m. added)
     (pairing_left
     (each_left (λ m. channel_gained m.gain)
     (clock_left
-    (scan_left propagation_makes
-    (each_left transmitter_formula left))))
+    (scan_left (λ m. frequency_offset m.phase m.offset.f)
+    (scan_left (λ m xs. echoes (used m.paths) (ring m.echo_line m.newest) xs)
+    (each_left (λ m. amplified_unless m.bypassed m.table)
+    (each_left (λ m. working_balanced m.balance)
+    (each_left (λ m. working_offset m.offset) left)))))))
     noise_left))
-    (lead_left indices))
+    (lead_left indices)))))
     s.stages
 
 -- the chain over a signal of converter samples

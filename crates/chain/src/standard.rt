@@ -3,16 +3,17 @@ ghost use Rattle.std.specs.Prelude.{◌≡◌};
 ghost use Rattle.chain.specs.Chains.{linked, played};
 ghost use Rattle.chain.specs.Meanings.{link_whole, link_left, chain_whole, chain_left};
 
-use crate::propagation::Propagation;
-use crate::receiver::Receiver;
-use crate::transmitter::Transmitter;
 use impairments::adding::Adding;
-use impairments::gains::ChannelGain;
+use impairments::converter::Quantizer;
+use impairments::dc::DcOffset;
+use impairments::gains::{FixedGain, ReceiveGain};
+use impairments::imbalance::Imbalance;
+use impairments::multipath::Multipath;
 use impairments::scaling::Scaling;
 use link::settings::Settings;
 use samples::converter::ConverterSample;
 use samples::gain_index::GainIndex;
-use samples::kinds::WorkingSample;
+use samples::kinds::{AirSample, WorkingSample};
 use source::fault::Fault;
 use source::source::Source;
 use stages::clock::Clock;
@@ -21,40 +22,54 @@ use stages::lead::Lead;
 use stages::noise::Noise;
 use stages::pairing::Pairing;
 use stages::scan::Scan;
+use turns::amplifier::Amplifier;
+use turns::frequency::Rotator;
 
 // How many items of noise there are.
 const NOISE_ITEMS: u32 = u32::MAX;
 
-// The signal on the air, without noise.
-type Sent<S> = Each<Clock<Scan<Each<S, Transmitter>, Propagation>>, ChannelGain>;
+// The chain's stages, each over those before it.
+type Shifted<S> = Each<S, DcOffset<WorkingSample>>;
+type Balanced<S> = Each<Shifted<S>, Imbalance<WorkingSample>>;
+type Amplified<S> = Each<Balanced<S>, Amplifier>;
+type Echoed<S> = Scan<Amplified<S>, Multipath>;
+type Turned<S> = Scan<Echoed<S>, Rotator>;
+type Resampled<S> = Clock<Turned<S>>;
+type OnAir<S> = Each<Resampled<S>, FixedGain<WorkingSample>>;
+type Noisy<S> = Each<Pairing<OnAir<S>, Noise>, Adding>;
+type Received<S, G> = Each<Pairing<Noisy<S>, Lead<G>>, ReceiveGain>;
+type RxShifted<S, G> = Each<Received<S, G>, DcOffset<AirSample>>;
+type RxBalanced<S, G> = Each<RxShifted<S, G>, Imbalance<AirSample>>;
+type Converted<S, G> = Each<RxBalanced<S, G>, Quantizer>;
 
-// The chain over a source of working samples: what stands in for the signal and its scaling.
+/// The chain over a source of working samples, which stands in for the signal and its scaling.
 #[derive(Drop)]
 pub struct Link<S: Source<Item = WorkingSample>, G: Source<Item = GainIndex>> {
-    stages: Each<Pairing<Each<Pairing<Sent<S>, Noise>, Adding>, Lead<G>>, Receiver>,
+    stages: Converted<S, G>,
 }
 
 impl<S: Source<Item = WorkingSample>, G: Source<Item = GainIndex>> Link<S, G> {
-    // The settings are fixed here: later changes of them do not reach the chain.
-    pub fn new(settings: &Settings, working: S, indices: G) -> Self
-        ensures whole { link_whole S.Source.whole G.Source.whole result ≡ linked settings.now (S.Source.whole working) (G.Source.whole indices) }
-        ensures left { link_left S.Source.left G.Source.left result ≡ linked settings.now (S.Source.whole working) (G.Source.whole indices) }
+    /// The chain with these settings, at its start. They are fixed here: later changes of them do not reach the chain.
+    pub fn new(settings: &Settings, signal: S, indices: G) -> Self
+        ensures whole { link_whole S.Source.whole G.Source.whole result ≡ linked settings.now (S.Source.whole signal) (G.Source.whole indices) }
+        ensures left { link_left S.Source.left G.Source.left result ≡ linked settings.now (S.Source.whole signal) (G.Source.whole indices) }
     {
-        let transmitter = Transmitter::new(settings);
-        let transmitted = Each::new(transmitter, working);
-        let propagation = Propagation::new(settings);
-        let propagated = Scan::new(propagation, transmitted);
-        let clocked = Clock::new(settings.clock_bypass, settings.clock, propagated);
-        let gain = ChannelGain::new(settings.gain);
-        let gained = Each::new(gain, clocked);
+        let shifted = Each::new(DcOffset::new(settings.tx_dc), signal);
+        let balanced = Each::new(Imbalance::new(settings.tx_imbalance), shifted);
+        let amplifier = Amplifier::new(settings.amplifier, settings.amplifier_bypass);
+        let amplified = Each::new(amplifier, balanced);
+        let echoed = Scan::new(Multipath::new(settings.paths), amplified);
+        let turned = Scan::new(Rotator::new(settings.frequency), echoed);
+        let resampled = Clock::new(settings.clock_bypass, settings.clock, turned);
+        let on_air = Each::new(FixedGain::new(settings.gain), resampled);
         let noise = Noise::new(settings.seeds, NOISE_ITEMS);
-        let beside_noise = Pairing::new(gained, noise);
-        let noisy = Each::new(Adding, beside_noise);
-        let first = GainIndex::new(0);
-        let led = Lead::new(settings.lead, first, indices);
-        let beside_indices = Pairing::new(noisy, led);
-        let receiver = Receiver::new(settings);
-        let stages = Each::new(receiver, beside_indices);
+        let noisy = Each::new(Adding, Pairing::new(on_air, noise));
+        let chosen = Lead::new(settings.lead, GainIndex::new(0), indices);
+        let gains = ReceiveGain::new(settings.receive_gains);
+        let received = Each::new(gains, Pairing::new(noisy, chosen));
+        let rx_shifted = Each::new(DcOffset::new(settings.rx_dc), received);
+        let rx_balanced = Each::new(Imbalance::new(settings.rx_imbalance), rx_shifted);
+        let stages = Each::new(Quantizer, rx_balanced);
         Link { stages }
     }
 }
@@ -76,10 +91,10 @@ impl<S: Source<Item = WorkingSample>, G: Source<Item = GainIndex>> Source for Li
     }
 }
 
-// The chain over a signal of converter samples.
+/// The chain over a signal of converter samples.
 pub type StandardChain<S, G> = Link<Each<S, Scaling>, G>;
 
-// The standard chain over a signal and its gain indices.
+/// The standard chain over a signal and its gain indices, at its start. Whatever plays the standard chain makes it here.
 pub fn standard_chain<S: Source<Item = ConverterSample>, G: Source<Item = GainIndex>>(
     settings: &Settings,
     signal: S,
@@ -88,7 +103,6 @@ pub fn standard_chain<S: Source<Item = ConverterSample>, G: Source<Item = GainIn
     ensures whole { chain_whole S.Source.whole G.Source.whole result ≡ played settings.now (S.Source.whole signal) (G.Source.whole indices) }
     ensures left { chain_left S.Source.left G.Source.left result ≡ played settings.now (S.Source.whole signal) (G.Source.whole indices) }
 {
-    let scaling = Scaling::new(settings.scale.factor);
-    let scaled = Each::new(scaling, signal);
+    let scaled = Each::new(settings.scale, signal);
     Link::new(settings, scaled, indices)
 }

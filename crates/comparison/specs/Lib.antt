@@ -2,3 +2,4 @@ pub mod Differences
 pub mod Endings
 pub mod Tables
 pub mod Tallies
+pub mod Wholes

@@ -10,7 +10,7 @@ fn first_unequal<T: PartialEq>(one: &[T], other: &[T]) -> Option<usize>
     one.iter().zip(other).position(|(x, y)| *x != *y)
 }
 
-// The first place at which the lists differ; where one of them begins the other, the place behind it.
+/// The first place, from 0, at which the lists differ; where one of them begins the other, the place behind it.
 #[tactic(auto, using(crate::proofs::Prefixes::by_agreement))]
 pub fn first_difference<T: PartialEq>(one: &[T], other: &[T]) -> Option<usize>
     ensures { result ≡ difference T.eq one.now other.now }

@@ -5,7 +5,7 @@ ghost use Rattle.comparison.specs.Endings.{ends_text, fault_text};
 use source::fault::Fault;
 use std::fmt;
 
-// How something ends: `finished`, or what ended it.
+/// How something ends: `finished`, or what ended it.
 #[derive(Clone, Copy, Debug)]
 pub struct Ends<F>(pub Result<(), F>);
 
@@ -20,7 +20,7 @@ impl<F: fmt::Display> fmt::Display for Ends<F> {
     }
 }
 
-// A fault where it is clear whose it is: `fault 12 at item 250`.
+/// A fault where it is clear whose it is: `fault 12 at item 250`.
 #[derive(Clone, Copy, Debug)]
 pub struct AtItem(pub Fault);
 

@@ -2,8 +2,8 @@
 ghost use Rattle.std.specs.Prelude.{◌≡◌, ◌≤◌, if◌then◌else◌};
 ghost use Rattle.comparison.specs.Tallies.{counted};
 
-// How many cases were compared, and how many of them were wrong.
-#[derive(Clone, Copy, PartialEq, Eq, Debug)]
+/// How many cases were compared, and how many of them were wrong. Each count stops at 2^64 - 1.
+#[derive(Clone, Copy, Debug)]
 pub struct Tally {
     pub cases: u64,
     pub wrong: u64,
@@ -11,6 +11,7 @@ pub struct Tally {
 }
 
 impl Tally {
+    /// No case yet.
     pub fn new() -> Tally
         ensures cases { result.cases ≡ 0 }
         ensures wrong { result.wrong ≡ 0 }
@@ -18,7 +19,7 @@ impl Tally {
         Tally { cases: 0, wrong: 0 }
     }
 
-    // Counts one more case, right or wrong.
+    /// Counts one more case, right or wrong.
     pub fn count(&mut self, right: bool)
         ensures cases { self.new.cases ≡ counted self.old.cases 1 }
         ensures wrong { self.new.wrong ≡ counted self.old.wrong (if right then 0 else 1) }
@@ -29,7 +30,7 @@ impl Tally {
         });
     }
 
-    // Counts the cases of another tally in.
+    /// Counts the cases of another tally in.
     pub fn add(&mut self, other: Tally)
         ensures cases { self.new.cases ≡ counted self.old.cases other.cases }
         ensures wrong { self.new.wrong ≡ counted self.old.wrong other.wrong }

@@ -1,12 +1,14 @@
 // Wholes as lists: all that a source hands out, and how it ends.
-ghost use Rattle.std.specs.Prelude.{◌≡◌, [], IfOk};
+ghost use Rattle.std.specs.Prelude.{◌≡◌, ◌≢◌, [], IfOk, OnOk, OnErr};
 ghost use Rattle.comparison.specs.Differences.{whole_difference};
+ghost use Rattle.comparison.specs.Wholes.{passed_over};
 
 use crate::difference::first_difference;
 use source::fault::Ending;
 use source::source::Source;
 use std::alloc::{AllocError, Global};
 
+/// A whole as a list: the items, and how they end.
 #[derive(Debug, Drop)]
 pub struct Whole<T, E> {
     pub items: Vec<T>,
@@ -14,15 +16,16 @@ pub struct Whole<T, E> {
 }
 
 impl<T: Copy> Whole<T, Ending> {
-    // All that the source has left.
+    /// All that the source has left, which is then at its end. Want of memory is told only where there is an item to hold.
     pub fn of<S: Source<Item = T>>(
         heap: Global,
         source: &mut S,
     ) -> Result<Whole<T, Ending>, AllocError>
-        ensures items { IfOk result (λ w. w.items.items ≡ (S.Source.left source.old).items) }
-        ensures ending { IfOk result (λ w. w.ending ≡ (S.Source.left source.old).ending) }
-        ensures moves { IfOk result (λ _. S.Source.left source.new ≡ record { items = []; ending = (S.Source.left source.old).ending }) }
-        ensures same { S.Source.whole source.new ≡ S.Source.whole source.old }
+        ensures items { IfOk result (λ w. w.items.items ≡ (S.left source.old).items) }
+        ensures ending { IfOk result (λ w. w.ending ≡ (S.left source.old).ending) }
+        ensures moves { OnOk result (S.left source.new ≡ passed_over (S.left source.old)) }
+        ensures same { S.whole source.new ≡ S.whole source.old }
+        ensures memory { OnErr result ((S.left source.old).items ≢ []) }
     {
         let mut items = Vec::new(heap);
         for item in source.items() {
@@ -34,10 +37,10 @@ impl<T: Copy> Whole<T, Ending> {
 }
 
 impl<T: PartialEq, E: PartialEq> Whole<T, E> {
-    // The first place at which they differ; the endings stand behind the last item.
+    /// The first place at which they differ, from 0; the endings stand behind the last item.
     #[tactic(auto, using(crate::proofs::Prefixes::prefix_is_all))]
     pub fn first_difference(&self, other: &Whole<T, E>) -> Option<usize>
-        ensures { result ≡ whole_difference T.eq E.eq self.now.items.items other.now.items.items self.now.ending other.now.ending }
+        ensures { result ≡ whole_difference T.eq E.eq self.now other.now }
     {
         let place = first_difference(self.items.as_slice(), other.items.as_slice());
         if place.is_none() && self.ending != other.ending {

@@ -1,11 +1,11 @@
 -- The echoes of a multipath channel.
-use Rattle.std.specs.Prelude.{ℕ, ◌+◌, ◌-◌, ◌%◌, ◌^◌, cond, List, length, take, ℤ, pos, ◌+ℤ◌, fold, nat_le, slice_index_or}
+use Rattle.std.specs.Prelude.{◌≡◌, ℕ, ◌+◌, ◌-◌, ◌%◌, ◌^◌, cond, List, length, take, ℤ, pos, ◌+ℤ◌, fold, nat_le, slice_index_or}
 use Rattle.std.proofs.Common.{lit≤}
 use Rattle.samples.specs.Arithmetic.{floor_by}
 use Rattle.samples.specs.Complex.{times}
 use Rattle.samples.specs.Kinds.{working, silent}
 use Rattle.samples.specs.declared.kinds.WorkingSample.{WorkingSample}
-use Rattle.source.specs.Streams.{tabulate}
+use Rattle.source.specs.Streams.{tabulate, length_tabulate}
 use Rattle.impairments.specs.declared.path.Path.{Path}
 use Rattle.impairments.specs.declared.paths.Paths.{Paths}
 
@@ -46,6 +46,11 @@ before h xs k d = cond (nat_le d k) (slice_index_or xs (k - d) silent) (h (d - k
 -- item k is what is heard at k
 unfoldable pub echoes : List Path → (ℕ → WorkingSample) → List WorkingSample → List WorkingSample
 echoes ps h xs = tabulate (λ k. heard ps (before h xs k)) 0 (length xs)
+
+-- one item out for each item in
+pub length_echoes : (ps : List Path) (h : ℕ → WorkingSample) (xs : List WorkingSample) → length (echoes ps h xs) ≡ length xs
+unfolding echoes
+length_echoes ps h xs = length_tabulate (λ k. heard ps (before h xs k)) 0 (length xs)
 
 -- what goes before the start
 abbrev pub silence : ℕ → WorkingSample

@@ -1,4 +1,4 @@
-// Gains: the channel's, from working to air samples, and the receiver's, which is chosen anew for every sample.
+// Gains, to air samples: a fixed one, as the channel's, and the receiver's, which is chosen anew for every sample.
 ghost use Rattle.std.specs.Prelude.{◌≡◌, ◌^◌, ◌≤◌, length, pos, ◌*ℤ◌};
 ghost use Rattle.samples.specs.Bounds.{Between};
 ghost use Rattle.impairments.specs.Levels.{gained_part, gained, chosen};
@@ -7,26 +7,32 @@ use crate::gain::Gain;
 use crate::product::times;
 use samples::arithmetic::floor_shift;
 use samples::gain_index::GainIndex;
-use samples::kinds::{AirSample, WorkingSample};
+use samples::kinds::AirSample;
 use samples::sample::Sample;
 use stages::each::Mapping;
+use std::marker::PhantomData;
 
-// The path loss of the channel, the same for every sample.
-#[derive(Clone, Copy)]
-pub struct ChannelGain {
+/// The same gain for every sample of kind K: of a working sample, as the channel's path loss, or of an air sample, at the
+/// receiver. The kind stands in the type: a mapping has one kind of item.
+#[derive(Drop)]
+pub struct FixedGain<K> {
     gain: Gain,
+    kind: PhantomData<K>,
 }
 
-impl ChannelGain {
-    // The same gain for every sample.
+impl<K: Sample> FixedGain<K> {
+    /// This gain for every sample.
     pub fn new(gain: Gain) -> Self
         ensures { result.gain ≡ gain }
     {
-        ChannelGain { gain }
+        FixedGain {
+            gain,
+            kind: PhantomData,
+        }
     }
 }
 
-// The receiver's 128 gains, of which an index chooses one.
+/// The receiver's 128 gains, of which an index chooses one.
 #[derive(Drop)]
 pub struct ReceiveGain {
     gains: [Gain; 128],
@@ -34,7 +40,7 @@ pub struct ReceiveGain {
 }
 
 impl ReceiveGain {
-    // Entry i is the gain of index i, 0 to 127.
+    /// Entry i is the gain of index i, 0 to 127.
     pub fn new(gains: [Gain; 128]) -> Self
         ensures { result.gains ≡ gains }
     {
@@ -73,15 +79,15 @@ fn gained<K: Sample>(gain: Gain, x: K) -> AirSample
     AirSample::new(re, im)
 }
 
-impl Mapping for ChannelGain {
-    type From = WorkingSample;
+impl<K: Sample> Mapping for FixedGain<K> {
+    type From = K;
 
     type To = AirSample;
 
-    ghost formula = { λ s x. gained s.gain x.re x.im };
+    ghost formula = { λ s x. gained s.gain (K.Sample.real x) (K.Sample.imaginary x) };
 
     #[inline(always)]
-    fn apply(&self, x: WorkingSample) -> AirSample {
+    fn apply(&self, x: K) -> AirSample {
         gained(self.gain, x)
     }
 }

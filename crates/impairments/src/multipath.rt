@@ -1,8 +1,7 @@
 // Multipath: the sum of delayed copies of the signal, each times a complex coefficient.
 ghost use Rattle.std.specs.Prelude.{◌≡◌, ◌^◌, ◌<◌, length};
-ghost use Rattle.std.proofs.Math.Path.{refl};
 ghost use Rattle.samples.specs.Bounds.{Between};
-ghost use Rattle.impairments.specs.Multipath.{used, echo_re, echo_im, heard, echoes, silence, ring};
+ghost use Rattle.impairments.specs.Multipath.{used, echo_re, echo_im, heard, echoes, length_echoes, silence, ring};
 
 use crate::path::Path;
 use crate::paths::Paths;
@@ -82,7 +81,7 @@ impl Memory for Multipath {
 
     ghost fresh = { λ s xs. echoes (used s.paths) silence xs };
 
-    ghost nothing = { unfold echoes in λ s. refl };
+    ghost same_length = { λ s xs. length_echoes (used s.paths) (ring s.echo_line s.newest) xs };
 
     #[inline(always)]
     fn step(&mut self, x: WorkingSample) -> WorkingSample {

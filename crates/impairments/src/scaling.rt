@@ -1,5 +1,5 @@
 // Scaling: from converter samples to working samples.
-ghost use Rattle.std.specs.Prelude.{◌≡◌};
+ghost use Rattle.std.specs.Prelude.{◌≡◌, ◌≤◌};
 ghost use Rattle.impairments.specs.Levels.{scaled, scaled_part};
 
 use crate::product::times;
@@ -9,19 +9,12 @@ use samples::kinds::WorkingSample;
 use samples::sample::Sample;
 use stages::each::Mapping;
 
-// Each part times factor / 256, rounded down.
-#[derive(Clone, Copy)]
+/// Each part times factor / 256, rounded down. The factor is 1 to 32767, 256 for 1.
+#[derive(Clone, Copy, PartialEq, Eq, Debug)]
 pub struct Scaling {
-    factor: u16,
-}
-
-impl Scaling {
-    // The factor is 256 for 1, and may be any of 0 to 65535; settings allow 1 to 32767.
-    pub fn new(factor: u16) -> Self
-        ensures { result.factor ≡ factor }
-    {
-        Scaling { factor }
-    }
+    pub factor: u16,
+    ghost low: { 1 ≤ factor },
+    ghost high: { factor ≤ 32767 },
 }
 
 fn scaled_part(factor: u16, x: i32) -> i64

@@ -1,5 +1,5 @@
 -- Entries come off the lines one after the other.
-use Rattle.std.proofs.Common.{◌≡◌, ℕ, ◌+◌, ◌<◌, List, [], ◌∷◌, length, map, filter, min, Bool, true, false, cond, not, ◌&&◌, ◌==◌, refl, sym, ap, ◌∙◌, ◌++◌, append_assoc, arith}
+use Rattle.std.proofs.Common.{◌≡◌, ℕ, ◌+◌, ◌<◌, List, [], ◌∷◌, length, map, filter, min, Result, Ok, Err, IfErr, MatchResult, length-append, Bool, true, false, cond, not, ◌&&◌, ◌==◌, refl, sym, ap, ◌∙◌, ◌++◌, append_assoc, arith}
 use Rattle.std.specs.List.{enumerate_from, AllZip}
 use Rattle.std.specs.Str.{IsUtf8, is_utf8}
 use Rattle.std.proofs.lemmas.Bool.Decides.{nat_tests}
@@ -81,3 +81,8 @@ passed_more Says all left after held entry one so_far is holds = (
 pub stops : {F : Type 0} (Says : List (List ℕ) → F → Type 0) (Complains : List (List ℕ) → Wrong → Type 0) (all left after : List (ℕ × List ℕ)) (held : List (Numbered F)) (entry : ℕ × List ℕ) (wrong : Numbered Wrong) → Passed Says all left held → left ≡ entry ∷ after → IsWrong Complains entry wrong ⊎ NoRoomFor Says entry wrong → FirstWrong Says Complains all wrong
 stops Says Complains all left after held entry wrong so_far is fails =
     record { before = so_far.0; entry = entry; after = after; held = held; entries_are = so_far.1 ∙ ap (λ ls. so_far.0 ++ ls) is; hold = so_far.2; fails = fails }
+
+-- what is wrong stands in an entry
+pub an_entry : {F : Type 0} (Says : List (List ℕ) → F → Type 0) (Complains : List (List ℕ) → Wrong → Type 0) (entries : List (ℕ × List ℕ)) {A : Type 0} (P : A → Type 0) (r : Result A (Numbered Wrong)) → MatchResult r P (FirstWrong Says Complains entries) → IfErr r (λ _. 0 < length entries)
+an_entry Says Complains entries P (Ok all) h = tt
+an_entry Says Complains entries P (Err wrong) h = rw h.entries_are (omega (arith, length-append {A = ℕ × List ℕ}))

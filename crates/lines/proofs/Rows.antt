@@ -6,7 +6,7 @@ use Rattle.std.proofs.lemmas.Grind.{flat_map-append}
 use Rattle.std.proofs.lemmas.List.Elements.{All-push}
 use Rattle.lines.specs.declared.fault.Wrong.{Wrong}
 use Rattle.lines.specs.Faults.{Kind, kind_of, Spells, FailsAt, Lacks, Exceeds, BeginsWithRow, NoRows, SayRows, TakesRow}
-use mathlib.Core.Logic.{◌⊎◌, inl, inr}
+use mathlib.Core.Logic.{inr}
 
 -- the error that a failed step hands on
 pub exit : {T E : Type 0} (P : T → Type 0) (Q : E → Type 0) (r : Result T E) (w : E) → IsErrAnd r (λ e. e ≡ w) → Q w → MatchResult r P Q
@@ -90,11 +90,11 @@ first_row kinds words left (row ∷ whole) is all h = (row, flat_map (λ r. r) w
 pub begun_row : {R : Type 0} (kinds : List Kind) (Says : List (List ℕ) → R → Type 0) (words : List (List ℕ)) (items : List R) (left after : List (List ℕ)) (row : R) → Begun kinds Says words items left → TakesRow kinds Says left after row → BeginsWithRow kinds words
 begun_row kinds Says words items left after row begun takes = first_row kinds words left begun.0 begun.1 begun.2 (takes.0, after, takes.1, takes.2)
 
--- words that are rows begin with one, unless there are none
-rows_first : {R : Type 0} (kinds : List Kind) (Says : List (List ℕ) → R → Type 0) → ((ws : List (List ℕ)) (row : R) → Says ws row → AllZip Spells kinds ws) → (words : List (List ℕ)) (rows : List (List (List ℕ))) (items : List R) → words ≡ flat_map (λ row. row) rows → AllZip Says rows items → (words ≡ []) ⊎ BeginsWithRow kinds words
-rows_first kinds Says spell words [] items is all = inl is
-rows_first kinds Says spell words (row ∷ rows) [] is all = absurd all
-rows_first kinds Says spell words (row ∷ rows) (x ∷ items) is all = inr (row, flat_map (λ r. r) rows, is, spell row x all.0)
+-- words that are rows begin with one, if there is one
+rows_first : {R : Type 0} (kinds : List Kind) (Says : List (List ℕ) → R → Type 0) → ((ws : List (List ℕ)) (row : R) → Says ws row → AllZip Spells kinds ws) → (words : List (List ℕ)) (rows : List (List (List ℕ))) (items : List R) → words ≡ flat_map (λ row. row) rows → AllZip Says rows items → 0 < length items → BeginsWithRow kinds words
+rows_first kinds Says spell words rows [] is all some = absurd (omega (arith, some))
+rows_first kinds Says spell words [] (x ∷ items) is all some = absurd all
+rows_first kinds Says spell words (row ∷ rows) (x ∷ items) is all some = (row, flat_map (λ r. r) rows, is, spell row x all.0)
 
-pub rows_begin : {R : Type 0} (kinds : List Kind) (Says : List (List ℕ) → R → Type 0) → ((ws : List (List ℕ)) (row : R) → Says ws row → AllZip Spells kinds ws) → (words : List (List ℕ)) (items : List R) → SayRows Says words items → (words ≡ []) ⊎ BeginsWithRow kinds words
-rows_begin kinds Says spell words items h = rows_first kinds Says spell words h.0 items h.1 h.2
+pub rows_begin : {R : Type 0} (kinds : List Kind) (Says : List (List ℕ) → R → Type 0) → ((ws : List (List ℕ)) (row : R) → Says ws row → AllZip Spells kinds ws) → (words : List (List ℕ)) (items : List R) → SayRows Says words items → 0 < length items → BeginsWithRow kinds words
+rows_begin kinds Says spell words items h some = rows_first kinds Says spell words h.0 items h.1 h.2 some

@@ -1,5 +1,5 @@
 -- The entries of a file, and what is read of them.
-use Rattle.std.specs.Prelude.{◌≡◌, ℕ, ◌<◌, List, ◌∷◌, ◌++◌, length, filter, ◌⊎◌, Result, Ok, Err}
+use Rattle.std.specs.Prelude.{◌≡◌, ℕ, ◌<◌, List, [], ◌∷◌, ◌++◌, length, filter, ◌⊎◌, Option, MatchOption, Result, Ok, Err}
 use Rattle.std.specs.List.{AllZip}
 use Rattle.std.specs.Str.{IsUtf8}
 use Rattle.lines.specs.declared.entries.Entries.{Entries}
@@ -18,6 +18,11 @@ entries_of bytes = entries_behind 0 bytes
 
 abbrev pub entries_left : {F : Type 0} → Entries F → List (ℕ × List ℕ)
 entries_left entries = entries_behind entries.lines.passed entries.lines.rest.now
+
+-- a line is text and holds nothing, having no word, or what its words say
+abbrev pub LineHolds : {F : Type 0} → (List (List ℕ) → F → Type 0) → List ℕ → Option F → Type 0
+LineHolds Says line held =
+    IsUtf8 line × MatchOption held (words_of line ≡ []) (λ value. (0 < length (words_of line)) × Says (words_of line) value)
 
 -- a line is no text, or its words are wrong
 abbrev pub WrongText : (List (List ℕ) → Wrong → Type 0) → List ℕ → Wrong → Type 0

@@ -79,9 +79,9 @@ pub record LastLacks (form : List ℕ) (kinds : List Kind) (words : List (List �
 abbrev pub BeginsWithRow : List Kind → List (List ℕ) → Type 0
 BeginsWithRow kinds words = (row : List (List ℕ)) × (more : List (List ℕ)) × (words ≡ row ++ more) × AllZip Spells kinds row
 
--- there is no memory for the rows; where there are words, a whole row comes first
+-- there is no memory to keep the rows, of which there is one at least
 abbrev pub NoRoom : List Kind → List (List ℕ) → Wrong → Type 0
-NoRoom kinds words wrong = (wrong ≡ Memory) × ((words ≡ []) ⊎ BeginsWithRow kinds words)
+NoRoom kinds words wrong = (wrong ≡ Memory) × BeginsWithRow kinds words
 
 -- what is wrong with words that should be one row of numbers, and with words that should be whole rows
 abbrev pub NoRow : List ℕ → List Kind → List (List ℕ) → Wrong → Type 0
@@ -97,6 +97,10 @@ SayRows Says words items = (rows : List (List (List ℕ))) × (words ≡ flat_ma
 -- a row is taken off the words
 abbrev pub TakesRow : {R : Type 0} → List Kind → (List (List ℕ) → R → Type 0) → List (List ℕ) → List (List ℕ) → R → Type 0
 TakesRow kinds Says words left row = (taken : List (List ℕ)) × (words ≡ taken ++ left) × AllZip Spells kinds taken × Says taken row
+
+-- a number is taken off the words
+abbrev pub TakesNumber : {N : Type 0} → (List ℕ → Option N) → List (List ℕ) → List (List ℕ) → N → Type 0
+TakesNumber spelled words left number = (word : List ℕ) × (words ≡ word ∷ left) × (spelled word ≡ Some number)
 
 -- one, two or three words spell the numbers
 abbrev pub OneSays : {A : Type 0} → (List ℕ → Option A) → List (List ℕ) → A → Type 0

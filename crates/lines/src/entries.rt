@@ -1,12 +1,10 @@
 // The entries of a file.
-ghost use Rattle.std.specs.Prelude.{◌≡◌, ℕ, ◌<◌, List, [], ◌∷◌, length, MatchOption, MatchResult};
+ghost use Rattle.std.specs.Prelude.{◌≡◌, ℕ, ◌<◌, List, [], ◌∷◌, length, IfErr, MatchOption, MatchResult};
 ghost use Rattle.std.specs.Iterator.{at_most};
 ghost use Rattle.std.specs.List.{AllZip};
-ghost use Rattle.std.specs.Str.{IsUtf8};
 ghost use Rattle.lines.specs.declared.fault.Wrong.{Wrong};
-ghost use Rattle.lines.specs.Entries.{WrongText, Holds, Reads, FirstWrong, entries_of, entries_left};
+ghost use Rattle.lines.specs.Entries.{LineHolds, WrongText, Holds, Reads, FirstWrong, entries_of, entries_left};
 ghost use Rattle.lines.specs.Taking.{words_left};
-ghost use Rattle.lines.specs.Words.{words_of};
 
 use crate::entry::Entry;
 use crate::fault::{Wrong, WrongLine};
@@ -15,24 +13,24 @@ use crate::numbered::Numbered;
 use std::alloc::Global;
 use std::marker::PhantomData;
 
-// What a line can hold.
+/// What a line can hold.
 pub trait Form: Drop + Sized {
-    // The words say this.
+    /// The words say this.
     ghost Says: { List (List ℕ) → Self → Type 0 };
 
-    // The words say nothing, and this is wrong with them.
+    /// The words say nothing, and this is wrong with them.
     ghost Complains: { List (List ℕ) → Wrong → Type 0 };
 
-    // What the line says that begins with the word.
+    /// What the line says that begins with the word.
     fn read(word: &str, line: Entry<'_>) -> Result<Self, Wrong>
-        ensures { MatchResult result (Says (word.now ∷ words_left line.entry)) (Complains (word.now ∷ words_left line.entry)) };
+        ensures { MatchResult result
+            (Says (word.now ∷ words_left line.entry))
+            (Complains (word.now ∷ words_left line.entry)) };
 }
 
 // What the line holds, if it is more than blanks and a comment.
 fn read_line<F: Form>(heap: Global, line: &[u8]) -> Result<Option<F>, Wrong>
-    ensures { MatchResult result
-        (λ held. IsUtf8 line.now × MatchOption held (words_of line.now ≡ []) (λ held. (0 < length (words_of line.now)) × F.Says (words_of line.now) held))
-        (WrongText F.Complains line.now) }
+    ensures { MatchResult result (LineHolds F.Says line.now) (WrongText F.Complains line.now) }
 {
     let mut entry = Entry::of(heap, line)?;
     let Some(word) = entry.word() else {
@@ -41,7 +39,7 @@ fn read_line<F: Form>(heap: Global, line: &[u8]) -> Result<Option<F>, Wrong>
     Ok(Some(F::read(word, entry)?))
 }
 
-// What the lines hold that are not passed yet, in order; a line that is wrong is told in its place.
+/// What the lines hold that are not passed yet, in order; a line that is wrong is told in its place.
 #[derive(Drop)]
 pub struct Entries<'a, F> {
     heap: Global,
@@ -50,7 +48,7 @@ pub struct Entries<'a, F> {
 }
 
 impl<'a, F: Form> Entries<'a, F> {
-    // All entries of the bytes, each read as the form F.
+    /// All entries of the bytes, each read as the form F.
     pub fn of(heap: Global, bytes: &'a [u8]) -> Entries<'a, F>
         ensures { entries_left result ≡ entries_of bytes.now }
     {
@@ -65,8 +63,10 @@ impl<'a, F: Form> Entries<'a, F> {
 impl<'a, F: Form> Iterator for Entries<'a, F> {
     type Item = Result<Numbered<F>, WrongLine>;
 
-    ghost next_gives = { λ s r t. MatchOption r ((entries_left s ≡ []) × (entries_left t ≡ []))
-        (λ read. (entry : ℕ × List ℕ) × (entries_left s ≡ entry ∷ entries_left t) × Reads F.Says F.Complains entry read) };
+    ghost next_gives = { λ s r t. MatchOption r
+        ((entries_left s ≡ []) × (entries_left t ≡ []))
+        (λ read. (entry : ℕ × List ℕ) × (entries_left s ≡ entry ∷ entries_left t)
+        × Reads F.Says F.Complains entry read) };
 
     ghost remaining = { λ s. at_most (length s.lines.rest.now) };
 
@@ -82,9 +82,13 @@ impl<'a, F: Form> Iterator for Entries<'a, F> {
     }
 }
 
-// What all lines hold, or the first that is wrong.
+/// What all entries of the bytes hold, in order, or the first that is wrong. Memory is taken to keep
+/// an entry and to quote a word that is wrong: bytes without an entry are never refused.
 pub fn read_all<F: Form>(heap: Global, bytes: &[u8]) -> Result<Vec<Numbered<F>>, WrongLine>
-    ensures { MatchResult result (λ all. AllZip (Holds F.Says) (entries_of bytes.now) all.items) (FirstWrong F.Says F.Complains (entries_of bytes.now)) }
+    ensures read { MatchResult result
+        (λ all. AllZip (Holds F.Says) (entries_of bytes.now) all.items)
+        (FirstWrong F.Says F.Complains (entries_of bytes.now)) }
+    ensures memory { IfErr result (λ _. 0 < length (entries_of bytes.now)) }
 {
     let mut all = Vec::new(heap);
     for entry in Entries::of(heap, bytes) {

@@ -11,7 +11,7 @@ use crate::numbers::Numbers;
 use std::alloc::Global;
 use std::str::{SplitAsciiWhitespace, from_utf8};
 
-// The words of a line that are not taken yet, its comment left out.
+/// The words of a line that are not taken yet, its comment left out.
 #[derive(Drop)]
 pub struct Entry<'a> {
     pub(crate) words: SplitAsciiWhitespace<'a>,
@@ -19,7 +19,7 @@ pub struct Entry<'a> {
 }
 
 impl<'a> Entry<'a> {
-    // The words up to the line's first `#`, if the line is UTF-8 text.
+    /// The words up to the line's first `#`, if the line is UTF-8 text.
     pub fn of(heap: Global, line: &'a [u8]) -> Result<Entry<'a>, Wrong>
         ensures { MatchResult result
             (λ entry. IsUtf8 line.now × (words_left entry ≡ words_of line.now))
@@ -38,7 +38,7 @@ impl<'a> Entry<'a> {
         })
     }
 
-    // The next word, if there is one.
+    /// The next word, if there is one.
     pub fn word(&mut self) -> Option<&'a str>
         ensures { MatchOption result
             ((words_left self.old ≡ []) × (words_left self.new ≡ []))
@@ -47,7 +47,7 @@ impl<'a> Entry<'a> {
         self.words.next()
     }
 
-    // The words that are left, as the numbers of a line of this form.
+    /// The words that are left, as the numbers of a line of this form.
     pub fn form(self, form: &'static str) -> Numbers<'a>
         ensures words { result.words ≡ self.entry }
         ensures form { result.form ≡ form.entry }
@@ -55,7 +55,7 @@ impl<'a> Entry<'a> {
         Numbers { words: self, form }
     }
 
-    // That the line begins with a word that names nothing of this kind.
+    /// That the line begins with a word that names nothing of this kind.
     pub fn unknown(&self, word: &str, kind: &'static str) -> Wrong
         ensures { Unknown kind.now word.now result }
     {

@@ -1,5 +1,6 @@
 // What is wrong with a line.
-ghost use Rattle.std.specs.Prelude.{◌≡◌, IfOk, string_bytes};
+ghost use Rattle.std.specs.Prelude.{◌≡◌, IfOk, Some, string_bytes};
+ghost use Rattle.lines.specs.Messages.{wrong_text};
 ghost use Rattle.lines.specs.Words.{quote_of};
 ghost use Rattle.lines.specs.declared.fault.Wrong.TheVariants.{Memory};
 
@@ -7,20 +8,21 @@ use crate::numbered::Numbered;
 use std::alloc::{AllocError, AllocFailed, Global};
 use std::fmt;
 
-// Words of the line are quoted by their beginning, so that a message stays short.
+/// What is wrong with a line. Words of the line are quoted by their beginning, so that a message
+/// stays short: at most 40 characters, and two dots where more follow.
 #[derive(Drop, Debug)]
 pub enum Wrong {
-    // The bytes are no UTF-8.
+    /// The bytes are no UTF-8.
     NoText,
-    // The first word is none that can begin a line; what such a word names.
+    /// The first word is none that can begin a line; what such a word names.
     UnknownWord(String, &'static str),
-    // A word that is no number of the kind that belongs there.
+    /// A word that is no number of the kind that belongs there; which numbers these are.
     NoNumber(String, &'static str),
-    // A number is missing; the form that the line should have.
+    /// A number is missing; the form that the line should have.
     Missing(&'static str),
-    // A word behind the last number; the form that the line should have.
+    /// A word behind the last number; the form that the line should have.
     Superfluous(String, &'static str),
-    // There was no memory for what the line holds.
+    /// There was no memory for what the line holds.
     Memory,
 }
 
@@ -40,7 +42,10 @@ impl<T: Drop> From<AllocFailed<T>> for Wrong {
     }
 }
 
+/// What is wrong, with the word, the numbers that it may be, or the line's form.
 impl fmt::Display for Wrong {
+    ghost output = { λ wrong. Some (wrong_text wrong) };
+
     fn fmt<W: fmt::Write>(&self, f: &mut fmt::Formatter<W>) -> fmt::Result {
         match self {
             Wrong::NoText => write!(f, "the line is not UTF-8 text"),
@@ -53,7 +58,7 @@ impl fmt::Display for Wrong {
     }
 }
 
-// The first line of a file that is wrong.
+/// What is wrong with the first line of a file that is wrong.
 pub type WrongLine = Numbered<Wrong>;
 
 // There was no memory for what stands in the line.

@@ -5,8 +5,8 @@ ghost use Rattle.std.specs.Iterator.{at_most};
 
 use crate::numbered::Numbered;
 
-// What is left of the file, from the start of a line, and how many lines are before it. A line ends at a line feed or at
-// the end of the file.
+/// What is left of a file, from the start of a line, and how many lines are before it. A line ends at
+/// a line feed or at the end of the file.
 #[derive(Drop)]
 pub struct Lines<'a> {
     rest: &'a [u8],
@@ -14,7 +14,7 @@ pub struct Lines<'a> {
 }
 
 impl<'a> Lines<'a> {
-    // All lines of the bytes; the first is line 1.
+    /// All lines of the bytes; the first is line 1.
     pub fn of(bytes: &'a [u8]) -> Lines<'a>
         ensures rest { result.rest.now ≡ bytes.now }
         ensures passed { result.passed ≡ 0 }
@@ -41,8 +41,10 @@ fn split_line<'a>(bytes: &'a [u8]) -> (&'a [u8], &'a [u8])
 impl<'a> Iterator for Lines<'a> {
     type Item = Numbered<&'a [u8]>;
 
-    ghost next_gives = { λ s r t. MatchOption r ((s.rest.now ≡ []) × (t ≡ s)) (λ line. FirstLine s.rest.now line.held.now t.rest.now
-        × (lines_of s.rest.now ≡ line.held.now ∷ lines_of t.rest.now) × (length t.rest.now < length s.rest.now)
+    ghost next_gives = { λ s r t. MatchOption r ((s.rest.now ≡ []) × (t ≡ s)) (λ line.
+        FirstLine s.rest.now line.held.now t.rest.now
+        × (lines_of s.rest.now ≡ line.held.now ∷ lines_of t.rest.now)
+        × (length t.rest.now < length s.rest.now)
         × (line.line ≡ told (s.passed + 1)) × (t.passed ≡ line.line)) };
 
     ghost remaining = { λ s. at_most (length s.rest.now) };

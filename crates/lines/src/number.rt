@@ -7,24 +7,25 @@ ghost use mir.Syntax.{w16, w64};
 
 use std::str::FromStr;
 
-// A type of number that a word can be read as.
+/// A type of number that a word can be read as.
 pub trait Number: Copy + FromStr<Err: Drop> {
     ghost range: { List ℕ };
 
     ghost spelled: { List ℕ → Option Self };
 
-    // Which numbers these are, in words.
+    /// Which numbers these are, in words.
     fn range() -> &'static str
         ensures { result.now ≡ range };
 
-    // The number that the word spells, if it is one of these.
+    /// The number that the word spells, if it is one of these.
     fn read(word: &str) -> Option<Self>
         ensures { result ≡ spelled word.now }
     {
         word.parse::<Self>().ok()
     }
 
-    ghost reads: { (word : List ℕ) (r : Result Self Self.Err) → Self.from_str_gives word r → result_ok r ≡ spelled word };
+    ghost reads: { (word : List ℕ) (r : Result Self Self.Err)
+        → Self.from_str_gives word r → result_ok r ≡ spelled word };
 }
 
 // One impl a type: the words for its range differ.
@@ -88,11 +89,11 @@ impl Number for i64 {
     }
 }
 
-// A switch, which is on at 1 and off at 0.
+/// A switch, which is on at 1 and off at 0.
 #[derive(Clone, Copy)]
 pub struct Switch(pub bool);
 
-// A word that is neither 0 nor 1.
+/// A word that is neither 0 nor 1.
 #[derive(Debug, Drop)]
 pub struct NoSwitch;
 

@@ -7,7 +7,7 @@ use crate::fault::Wrong;
 use crate::number::Number;
 use crate::numbers::Numbers;
 
-// One, two or three numbers in a row.
+/// One, two or three numbers in a row.
 pub trait Row: Drop + Sized {
     ghost kind: { Kind };
 
@@ -15,11 +15,13 @@ pub trait Row: Drop + Sized {
 
     ghost Says: { List (List ℕ) → Self → Type 0 };
 
-    // The row that begins with the word.
+    /// The row that begins with the word.
     fn read(first: &str, behind: &mut Numbers<'_>) -> Result<Self, Wrong>
         ensures read { MatchResult result
-            (TakesRow (kind ∷ kinds_behind) Says (first.now ∷ numbers_left behind.old) (numbers_left behind.new))
-            (Lacks behind.old.form.now (kind ∷ kinds_behind) (first.now ∷ numbers_left behind.old)) }
+            (TakesRow (kind ∷ kinds_behind) Says
+            (first.now ∷ numbers_left behind.old) (numbers_left behind.new))
+            (Lacks behind.old.form.now (kind ∷ kinds_behind)
+            (first.now ∷ numbers_left behind.old)) }
         ensures form { behind.new.form ≡ behind.old.form };
 }
 

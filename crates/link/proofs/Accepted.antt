@@ -4,8 +4,8 @@ use native.Mathlib.Decide.{dec_lt}
 use Rattle.impairments.specs.declared.gain.Gain.{Gain}
 use Rattle.stages.specs.declared.clock_offset.ClockOffset.{ClockOffset}
 use Rattle.stages.specs.declared.seeds.Seeds.{Seeds}
-use Rattle.link.specs.declared.frequency_offset.FrequencyOffset.{FrequencyOffset}
-use Rattle.link.specs.declared.scale.Scale.{Scale}
+use Rattle.turns.specs.declared.frequency_offset.FrequencyOffset.{FrequencyOffset}
+use Rattle.impairments.specs.declared.scaling.Scaling.{Scaling}
 use Rattle.link.specs.declared.refusal.SettingRefusal.TheVariants.{ScaleOutside, GainOutside, ClockOutside, SeedZero, FrequencyOutside}
 use Rattle.link.specs.Checks.{checked_scale, checked_gain, checked_clock, checked_frequency, checked_seeds}
 use Rattle.link.specs.Decisions.{both, between, between_ℤ, checked}
@@ -15,7 +15,7 @@ pub made : {P X E : Type 0} (d : Dec P) (make : P → X) (e : E) (x : X) → P �
 made (yes q) make e x p same = ap Ok (same q)
 made (no n) make e x p same = absurd (n p)
 
-pub scale_made : (s : Scale) (f : ℕ) → s.factor ≡ f → Ok s ≡ checked_scale f
+pub scale_made : (s : Scaling) (f : ℕ) → s.factor ≡ f → Ok s ≡ checked_scale f
 scale_made s f e =
     made (between 1 f 32767) _ ScaleOutside s (subst (λ x. (1 ≤ x) × (x ≤ 32767)) e (s.low, s.high)) (λ h. same_scale s _ e)
 

@@ -10,9 +10,9 @@ use Rattle.impairments.specs.declared.path.Path.{Path}
 use Rattle.stages.specs.declared.clock_offset.ClockOffset.{ClockOffset}
 use Rattle.stages.specs.declared.seeds.Seeds.{Seeds}
 use Rattle.turns.specs.declared.table.AmplifierTable.{AmplifierTable}
-use Rattle.link.specs.declared.frequency_offset.FrequencyOffset.{FrequencyOffset}
+use Rattle.turns.specs.declared.frequency_offset.FrequencyOffset.{FrequencyOffset}
 use Rattle.impairments.specs.declared.paths.Paths.{Paths}
-use Rattle.link.specs.declared.scale.Scale.{Scale}
+use Rattle.impairments.specs.declared.scaling.Scaling.{Scaling}
 use Rattle.link.specs.declared.settings.Settings.{Settings}
 
 under : (n : ℕ) {x y : ℕ} (p : x ≡ y) (u : x ≤ n) (v : y ≤ n) → PathP (λ i. p i ≤ n) u v
@@ -30,7 +30,7 @@ over_ℤ z {y = y} p u v = let one : IsProp (z ≤ℤ y) = hlevel props in to_pa
 long : {X : Type 0} (n : ℕ) {xs ys : List X} (p : xs ≡ ys) (u : length xs ≡ n) (v : length ys ≡ n) → PathP (λ i. length (p i) ≡ n) u v
 long n p u v = to_path_p (λ i. length (p i) ≡ n) (≡_prop coded_ℕ _ _ _ v)
 
-pub same_scale : (a b : Scale) → a.factor ≡ b.factor → a ≡ b
+pub same_scale : (a b : Scaling) → a.factor ≡ b.factor → a ≡ b
 same_scale a b p = λ i. record { factor = p i; low = over 1 p a.low b.low i; high = under 32767 p a.high b.high i }
 
 pub same_frequency : (a b : FrequencyOffset) → a.f ≡ b.f → a ≡ b

@@ -6,10 +6,10 @@ use Rattle.impairments.specs.declared.offset.Offset.{Offset}
 use Rattle.stages.specs.declared.clock_offset.ClockOffset.{ClockOffset}
 use Rattle.stages.specs.declared.seeds.Seeds.{Seeds}
 use Rattle.turns.specs.declared.table.AmplifierTable.{AmplifierTable}
-use Rattle.link.specs.declared.frequency_offset.FrequencyOffset.{FrequencyOffset}
+use Rattle.turns.specs.declared.frequency_offset.FrequencyOffset.{FrequencyOffset}
 use Rattle.impairments.specs.declared.paths.Paths.{Paths}
 use Rattle.link.specs.declared.refusal.SettingRefusal.{SettingRefusal}
-use Rattle.link.specs.declared.scale.Scale.{Scale}
+use Rattle.impairments.specs.declared.scaling.Scaling.{Scaling}
 use Rattle.link.specs.declared.settings.Settings.{Settings}
 
 -- what a setting call answers: the refusal, or nothing
@@ -31,7 +31,7 @@ abbrev pub balance : ℤ → ℤ → ℤ → Balance
 balance a b c = record { a = a; b = b; c = c }
 
 -- the scale factor changed
-abbrev pub with_scale : Scale → Settings → Settings
+abbrev pub with_scale : Scaling → Settings → Settings
 with_scale new s = record s { scale = new }
 
 -- the transmitter's DC offset changed

@@ -5,14 +5,14 @@ use Rattle.std.proofs.Math.Decide.{dec_lt}
 use Rattle.impairments.specs.declared.gain.Gain.{Gain}
 use Rattle.stages.specs.declared.clock_offset.ClockOffset.{ClockOffset}
 use Rattle.stages.specs.declared.seeds.Seeds.{Seeds}
-use Rattle.link.specs.declared.frequency_offset.FrequencyOffset.{FrequencyOffset}
+use Rattle.turns.specs.declared.frequency_offset.FrequencyOffset.{FrequencyOffset}
 use Rattle.link.specs.declared.refusal.SettingRefusal.{SettingRefusal}
 use Rattle.link.specs.declared.refusal.SettingRefusal.TheVariants.{ScaleOutside, GainOutside, ClockOutside, SeedZero, FrequencyOutside, IndexOver}
-use Rattle.link.specs.declared.scale.Scale.{Scale}
+use Rattle.impairments.specs.declared.scaling.Scaling.{Scaling}
 use Rattle.link.specs.Decisions.{both, between, between_ℤ, checked}
 
 -- a scale factor is 1 to 32767
-abbrev pub checked_scale : ℕ → Result Scale SettingRefusal
+abbrev pub checked_scale : ℕ → Result Scaling SettingRefusal
 checked_scale f = checked (between 1 f 32767) (λ h. record { factor = f; low = h.0; high = h.1 }) ScaleOutside
 
 -- a gain's shift is -32 to 18, and its factor 128 to 255

@@ -4,27 +4,27 @@ ghost use Rattle.std.specs.Prelude.{◌≡◌, ◌≤◌, OnOk};
 ghost use Rattle.link.specs.Checks.{checked_scale, checked_gain, checked_clock, checked_frequency, checked_seeds, checked_receive_gain};
 ghost use Rattle.link.specs.Lists.{checked_paths, checked_table};
 
-use crate::frequency_offset::FrequencyOffset;
 use crate::neutral::{FULL_ENTRY, NEUTRAL_PATH};
 use crate::paths::RawPath;
 use crate::refusal::SettingRefusal;
-use crate::scale::Scale;
 use impairments::gain::Gain;
 use impairments::path::Path;
 use impairments::paths::Paths;
+use impairments::scaling::Scaling;
 use stages::clock_offset::ClockOffset;
 use stages::seeds::Seeds;
 use turns::entry::Entry;
+use turns::frequency_offset::FrequencyOffset;
 use turns::table::AmplifierTable;
 
 // 1 to 32767.
-pub(crate) fn checked_scale(factor: u16) -> Result<Scale, SettingRefusal>
+pub(crate) fn checked_scale(factor: u16) -> Result<Scaling, SettingRefusal>
     ensures { result ≡ checked_scale factor }
 {
     if !(1..=32767).contains(&factor) {
         return Err(SettingRefusal::ScaleOutside);
     }
-    Ok(Scale { factor })
+    Ok(Scaling { factor })
 }
 
 // Shift -32 to 18, factor 128 to 255.

@@ -6,11 +6,9 @@
 #![tactic(auto)]
 
 mod checks;
-pub mod frequency_offset;
 mod neutral;
 pub mod paths;
 pub mod refusal;
-pub mod scale;
 pub mod settings;
 #[cfg(test)]
 mod tests;

@@ -1,33 +1,36 @@
 // Why a setting call is refused.
-ghost use Rattle.std.specs.Prelude.{◌≡◌};
-ghost use Rattle.link.specs.Refusals.{setting_number};
+ghost use Rattle.std.specs.Prelude.{◌≡◌, Some};
+ghost use Rattle.std.proofs.Common.{rules};
+ghost use Rattle.link.specs.Refusals.{setting_number, setting_text};
 
+use samples::exact::Exact;
 use std::fmt;
 
+/// Why a setting call is refused: which of its numbers is outside its range.
 #[derive(Clone, Copy, PartialEq, Eq, Debug)]
 pub enum SettingRefusal {
-    // The scale factor is outside 1 to 32767.
+    /// The scale factor is outside 1 to 32767.
     ScaleOutside,
-    // A gain's shift is outside -32 to 18, or its factor outside 128 to 255.
+    /// A gain's shift is outside -32 to 18, or its factor outside 128 to 255.
     GainOutside,
-    // There are not 1 to 10 paths (path 10), or this is the first path, from 0, with a delay over 63.
-    // Told as path 10, as the answers number it.
+    /// There are not 1 to 10 paths, told as path 10; or this is the first path, 0 to 9, with a delay
+    /// over 63.
     PathOutside { path: u8 },
-    // A list is not 513 long (entry 513), or this is the first entry, from 0, with an amplitude over 32767.
-    // Told as entry 513, as the answers number it.
+    /// A list is not 513 long, told as entry 513; or this is the first entry, 0 to 512, with an
+    /// amplitude over 32767.
     EntryOutside { entry: u16 },
-    // The clock offset is beyond 9,007,199,254,740, up or down.
+    /// The clock offset is beyond 9,007,199,254,740, up or down.
     ClockOutside,
-    // A noise seed is 0.
+    /// A noise seed is 0.
     SeedZero,
-    // The frequency offset is outside -2^47 to 2^47 - 1.
+    /// The frequency offset is outside -2^47 to 2^47 - 1.
     FrequencyOutside,
-    // The index of a receive gain is over 127.
+    /// The index of a receive gain is over 127.
     IndexOver,
 }
 
 impl SettingRefusal {
-    // The number by which the refusal is known.
+    /// The number by which the refusal is known: 1 to 7, or 13.
     pub fn number(self) -> u8
         ensures { result ≡ setting_number self }
     {
@@ -44,7 +47,14 @@ impl SettingRefusal {
     }
 }
 
+impl Exact for SettingRefusal {
+    ghost exact = { Prim.search rules };
+}
+
+/// Which numbers are accepted, and of a list the path or entry that is not.
 impl fmt::Display for SettingRefusal {
+    ghost output = { λ refusal. Some (setting_text refusal) };
+
     fn fmt<W: fmt::Write>(&self, f: &mut fmt::Formatter<W>) -> fmt::Result {
         match *self {
             SettingRefusal::ScaleOutside => write!(f, "the scale factor must be 1 to 32767"),

@@ -10,17 +10,17 @@ use crate::checks::{
     checked_clock, checked_frequency, checked_gain, checked_paths, checked_receive_gain,
     checked_scale, checked_seeds, checked_table,
 };
-use crate::frequency_offset::FrequencyOffset;
 use crate::neutral::{FULL_ENTRY, NEUTRAL_PATH, UNIT_GAIN};
 use crate::paths::RawPath;
 use crate::refusal::SettingRefusal;
-use crate::scale::Scale;
 use impairments::balance::Balance;
 use impairments::gain::Gain;
 use impairments::offset::Offset;
 use impairments::paths::Paths;
+use impairments::scaling::Scaling;
 use stages::clock_offset::ClockOffset;
 use stages::seeds::Seeds;
+use turns::frequency_offset::FrequencyOffset;
 use turns::table::AmplifierTable;
 
 // One plain struct, whose fields carry their own ranges. It is changed by the calls below, and a stage that is made from
@@ -28,7 +28,7 @@ use turns::table::AmplifierTable;
 #[derive(Clone, Copy)]
 pub struct Settings {
     // Transmitter.
-    pub scale: Scale,
+    pub scale: Scaling,
     pub tx_dc: Offset,
     pub tx_imbalance: Balance,
     pub amplifier: AmplifierTable,
@@ -62,7 +62,7 @@ impl Settings {
             c: 0,
         };
         Settings {
-            scale: Scale { factor: 256 },
+            scale: Scaling { factor: 256 },
             tx_dc: dc,
             tx_imbalance: balance,
             amplifier: AmplifierTable {

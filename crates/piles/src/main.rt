@@ -72,6 +72,7 @@ fn receivers(piles: &mut Piles<'_>) -> anyhow::Result<()> {
         Take::spoilt(40, 23),
         gains,
     )?;
+    piles.gained_twice("gain-gain", whole)?;
     piles.receiver("receiver", whole, whole)?;
     piles.receiver("receiver-fault", Take::spoilt(40, 30), whole)
 }

@@ -6,7 +6,7 @@ use impairments::adding::Adding;
 use impairments::balance::Balance;
 use impairments::converter::Quantizer;
 use impairments::dc::DcOffset;
-use impairments::gains::{ChannelGain, ReceiveGain};
+use impairments::gains::{FixedGain, ReceiveGain};
 use impairments::imbalance::Imbalance;
 use impairments::multipath::Multipath;
 use impairments::offset::Offset;
@@ -26,7 +26,8 @@ use stages::pairing::Pairing;
 use stages::scan::Scan;
 use stages::seeds::Seeds;
 use turns::amplifier::Amplifier;
-use turns::frequency::FrequencyOffset;
+use turns::frequency::Rotator;
+use turns::frequency_offset::FrequencyOffset;
 
 // The paths below and above the clock.
 const LOWER: [RawPath; 3] = [
@@ -75,7 +76,7 @@ const CORNER: WorkingSample = WorkingSample {
 };
 
 // A signal on the air, with noise, and with the gains that its indices choose.
-type OnAir<S> = Each<Each<S, Scaling>, ChannelGain>;
+type OnAir<S> = Each<Each<S, Scaling>, FixedGain<WorkingSample>>;
 
 type Noisy<S> = Each<Pairing<S, Noise>, Adding>;
 
@@ -86,8 +87,8 @@ type Converted<S> = Each<Each<Each<S, DcOffset<AirSample>>, Imbalance<AirSample>
 
 // A signal on the air: scaling, and the gain of the path.
 fn on_air<S: Source<Item = ConverterSample> + Drop>(signal: S) -> anyhow::Result<OnAir<S>> {
-    let scaled = Each::new(Scaling::new(1631), signal);
-    Ok(Each::new(ChannelGain::new(settings::gain(2, 155)?), scaled))
+    let scaled = Each::new(Scaling { factor: 1631 }, signal);
+    Ok(Each::new(FixedGain::new(settings::gain(2, 155)?), scaled))
 }
 
 // Noise of so many items added.
@@ -133,10 +134,10 @@ fn converted<S: Source<Item = AirSample>>(air: S) -> Converted<S> {
 fn turned<S: Source<Item = WorkingSample> + Drop>(
     below: S,
     c: i64,
-) -> anyhow::Result<Scan<Clock<Lead<S>>, FrequencyOffset>> {
+) -> anyhow::Result<Scan<Clock<Lead<S>>, Rotator>> {
     let led = Lead::new(4, CORNER, below);
     let clocked = Clock::new(false, settings::clock_offset(c)?, led);
-    Ok(Scan::new(FrequencyOffset::new(TURN), clocked))
+    Ok(Scan::new(Rotator::new(FrequencyOffset { f: TURN }), clocked))
 }
 
 impl Piles<'_> {
@@ -148,7 +149,7 @@ impl Piles<'_> {
         c: i64,
     ) -> anyhow::Result<()> {
         let bytes = signal_bytes(self.heap(), signal)?;
-        let scaled = Each::new(Scaling::new(2048), open_signal(bytes.as_slice())?);
+        let scaled = Each::new(Scaling { factor: 2048 }, open_signal(bytes.as_slice())?);
         let lower = Scan::new(Multipath::new(settings::paths(&LOWER)?), scaled);
         let clocked = Clock::new(false, settings::clock_offset(c)?, lower);
         let upper = Scan::new(Multipath::new(settings::paths(&UPPER)?), clocked);
@@ -163,7 +164,7 @@ impl Piles<'_> {
         c: i64,
     ) -> anyhow::Result<()> {
         let bytes = signal_bytes(self.heap(), signal)?;
-        let scaled = Each::new(Scaling::new(4096), open_signal(bytes.as_slice())?);
+        let scaled = Each::new(Scaling { factor: 4096 }, open_signal(bytes.as_slice())?);
         let first = WorkingSample {
             re: 1234,
             im: -4321,
@@ -181,7 +182,7 @@ impl Piles<'_> {
         upper: i64,
     ) -> anyhow::Result<()> {
         let bytes = signal_bytes(self.heap(), signal)?;
-        let scaled = Each::new(Scaling::new(4096), open_signal(bytes.as_slice())?);
+        let scaled = Each::new(Scaling { factor: 4096 }, open_signal(bytes.as_slice())?);
         let once = Clock::new(false, settings::clock_offset(lower)?, scaled);
         self.compare(
             name,
@@ -192,8 +193,8 @@ impl Piles<'_> {
     // An amplifier over a frequency offset of a 256th of a turn a sample: every magnitude and every phase.
     pub(crate) fn amplified(&mut self, name: &str, signal: Take) -> anyhow::Result<()> {
         let bytes = signal_bytes(self.heap(), signal)?;
-        let scaled = Each::new(Scaling::new(4096), open_signal(bytes.as_slice())?);
-        let turning = Scan::new(FrequencyOffset::new(1 << 40), scaled);
+        let scaled = Each::new(Scaling { factor: 4096 }, open_signal(bytes.as_slice())?);
+        let turning = Scan::new(Rotator::new(FrequencyOffset { f: 1 << 40 }), scaled);
         let amplifier = Amplifier::new(settings::amplifier_table()?, false);
         self.compare(name, Each::new(amplifier, turning))
     }
@@ -201,15 +202,15 @@ impl Piles<'_> {
     // A frequency offset over another, of half a turn a sample.
     pub(crate) fn turned_twice(&mut self, name: &str, signal: Take) -> anyhow::Result<()> {
         let bytes = signal_bytes(self.heap(), signal)?;
-        let scaled = Each::new(Scaling::new(4096), open_signal(bytes.as_slice())?);
-        let once = Scan::new(FrequencyOffset::new(-(1 << 47)), scaled);
-        self.compare(name, Scan::new(FrequencyOffset::new(675_539_944_106), once))
+        let scaled = Each::new(Scaling { factor: 4096 }, open_signal(bytes.as_slice())?);
+        let once = Scan::new(Rotator::new(FrequencyOffset { f: -(1 << 47) }), scaled);
+        self.compare(name, Scan::new(Rotator::new(FrequencyOffset { f: 675_539_944_106 }), once))
     }
 
     // A lead over another.
     pub(crate) fn led_twice(&mut self, name: &str, signal: Take) -> anyhow::Result<()> {
         let bytes = signal_bytes(self.heap(), signal)?;
-        let scaled = Each::new(Scaling::new(256), open_signal(bytes.as_slice())?);
+        let scaled = Each::new(Scaling { factor: 256 }, open_signal(bytes.as_slice())?);
         let lower = Lead::new(2, WorkingSample { re: 1, im: 2 }, scaled);
         self.compare(name, Lead::new(3, WorkingSample { re: 3, im: 4 }, lower))
     }
@@ -226,7 +227,7 @@ impl Piles<'_> {
     // The same over a signal.
     pub(crate) fn turned_signal(&mut self, name: &str, signal: Take, c: i64) -> anyhow::Result<()> {
         let bytes = signal_bytes(self.heap(), signal)?;
-        let scaled = Each::new(Scaling::new(3000), open_signal(bytes.as_slice())?);
+        let scaled = Each::new(Scaling { factor: 3000 }, open_signal(bytes.as_slice())?);
         self.compare(name, turned(scaled, c)?)
     }
 
@@ -242,6 +243,15 @@ impl Piles<'_> {
         let air = on_air(open_signal(bytes.as_slice())?)?;
         let once = noisy(air, settings::seeds(7, 8)?, inner);
         self.compare(name, noisy(once, settings::seeds(1, 12345)?, outer))
+    }
+
+    // A gain from air to air over the gain of the path, which clips the loudest samples.
+    pub(crate) fn gained_twice(&mut self, name: &str, signal: Take) -> anyhow::Result<()> {
+        let bytes = signal_bytes(self.heap(), signal)?;
+        let scaled = Each::new(Scaling { factor: 4096 }, open_signal(bytes.as_slice())?);
+        let on_air = Each::new(FixedGain::<WorkingSample>::new(settings::gain(17, 200)?), scaled);
+        let gain = FixedGain::<AirSample>::new(settings::gain(-3, 201)?);
+        self.compare(name, Each::new(gain, on_air))
     }
 
     // A receiver up to its gain, over a signal on the air with noise and its gain indices.

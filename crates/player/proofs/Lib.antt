@@ -1,4 +1,5 @@
 mod Counting
 mod Endings
 mod Laws
+mod Running
 mod Standings

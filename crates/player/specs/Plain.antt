@@ -1,7 +1,8 @@
 -- The plain player. It is given the whole w of a chain, of length L, and the calls with their arguments. It keeps only the
 -- place p, a number without limit, which is 0 when it is made.
-use Rattle.std.specs.Prelude.{ℕ, ◌+◌, ◌-◌, ◌^◌, min, Bool, cond, ◌&&◌, List, [], ◌∷◌, ◌++◌, length, take, drop, None, Ok, Err, Option, Result, ◌==◌, nat_lt}
+use Rattle.std.specs.Prelude.{ℕ, ◌+◌, ◌-◌, min, Bool, cond, ◌&&◌, List, [], ◌∷◌, ◌++◌, length, take, drop, None, Ok, Err, Option, Result, ◌==◌, nat_lt}
 use Rattle.std.specs.List.{slice_get}
+use Rattle.source.specs.Places.{stopped}
 use Rattle.source.specs.Streams.{Ending, Stream}
 use Rattle.source.specs.declared.fault.Fault.{Fault}
 use Rattle.player.specs.Calls.{Asked, next, fill, skip, rewind, Told, item, filled, skipped, rewound}
@@ -10,10 +11,6 @@ use Rattle.player.specs.declared.fault.PlayerFault.{PlayerFault}
 -- t, how many items are handed out: the smaller of the number wanted and L - p
 abbrev pub handed_out : {T : Type 0} → Stream T → ℕ → ℕ → ℕ
 handed_out w p wanted = min wanted (length w.items - p)
-
--- a place as a fault tells it: it stops at 2^63 - 1
-abbrev pub stopped : ℕ → ℕ
-stopped p = min p (2 ^ 63 - 1)
 
 -- the player's fault holds the source's fault whole and adds the place
 abbrev pub player_fault : Fault → ℕ → PlayerFault

@@ -1,11 +1,15 @@
 -- The law of runs: whatever calls are made on a freshly made player, in any order and number and with any arguments, item k
 -- that comes out is item k of one whole, and an ending is told only where that whole ends.
-use Rattle.std.specs.Prelude.{◌≡◌, ℕ, ◌+◌, ◌<◌, ◌≤◌, cond, List, [], ◌∷◌, length, take, Some, None, Ok, Err, fold, Option, Result}
+use Rattle.std.specs.Prelude.{◌≡◌, ℕ, ◌+◌, ◌<◌, ◌≤◌, cond, List, [], ◌∷◌, ◌++◌, length, map, take, Some, None, Ok, Err, fold, Option, Result, Vec, vec_items}
 use Rattle.std.specs.List.{slice_get}
 use Rattle.source.specs.Streams.{Ending, Stream}
 use Rattle.player.specs.declared.fault.PlayerFault.{PlayerFault}
-use Rattle.player.specs.Calls.{Asked, wanted, Told, item, filled, skipped, rewound}
-use Rattle.player.specs.Plain.{none_came, stopped, plain_run}
+use Rattle.player.specs.declared.calls.Answer.{Answer}
+use Rattle.player.specs.declared.calls.Call.{Call}
+use Rattle.player.specs.Calls.{Asked, asked, wanted, Told, told, item, filled, skipped, rewound}
+use Rattle.source.specs.Places.{stopped}
+use Rattle.player.specs.Plain.{none_came, plain_run}
+use Rattle.player.specs.Standing.{Standing, Plays}
 
 -- the items that an answer brings out, in order
 abbrev pub brought_out : {T : Type 0} → Told T → List T
@@ -89,3 +93,18 @@ pub record LawOfRuns {T : Type 0} (w : Stream T) (calls : List (Asked T)) (answe
   pub ends_always_there : (turn : Turn calls answers) → AtTheEnd w turn → ending_told (wanted turn.call) turn.answer ≡ Some w.ending
   -- A fault tells the place, which stops at 2^63 - 1.
   pub place_in_fault : (turn : Turn calls answers) (f : PlayerFault) → fault_told turn.answer ≡ Some f → f.place ≡ stopped (place_at turn)
+
+-- A run of a player that stood at the start: each call made of it in turn tells and leaves what its own clause `plays` says.
+pub data RunFrom {T : Type 0} (start : Standing T) : List (Asked T) → List (Told T) → Standing T → Type 0 where
+  -- no call yet
+  begun : RunFrom start [] [] start
+  -- one call more
+  went : {calls : List (Asked T)} {answers : List (Told T)} {before after : Standing T} (call : Asked T) (answer : Told T) → RunFrom start calls answers before → Plays call before after answer → RunFrom start (calls ++ call ∷ []) (answers ++ answer ∷ []) after
+
+-- The law holds of every run of a player that stood at the start.
+pub record EveryRunLawful {T : Type 0} (start : Standing T) (w : Stream T) : Type 0 where
+  pub law : {calls : List (Asked T)} {answers : List (Told T)} {after : Standing T} → RunFrom start calls answers after → LawOfRuns w calls answers
+
+-- The law for a run whose calls and answers are values.
+abbrev pub RunLawful : {T Z : Type 0} → Stream T → Vec (Call T) Z → Vec (Answer T) Z → Type 0
+RunLawful w calls answers = LawOfRuns w (map asked (vec_items calls)) (map told (vec_items answers))

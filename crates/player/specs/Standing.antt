@@ -4,7 +4,8 @@ use Rattle.std.specs.Prelude.{◌≡◌, ℕ, ◌+◌, ◌≤◌, min, Bool, tru
 use Rattle.std.specs.List.{slice_get}
 use Rattle.source.specs.Streams.{Stream, from}
 use Rattle.player.specs.Calls.{Asked, next, fill, skip, rewind, Told, item, filled, skipped, rewound}
-use Rattle.player.specs.Plain.{stopped, answer_of, plain_answer, plain_place}
+use Rattle.source.specs.Places.{stopped}
+use Rattle.player.specs.Plain.{answer_of, plain_answer, plain_place}
 use Rattle.player.specs.declared.fault.PlayerFault.{PlayerFault}
 
 -- Where a player stands.

@@ -1,13 +1,15 @@
 // A player: it plays one source, item by item, in blocks, or passing items over.
 ghost use Rattle.std.specs.Prelude.{◌≡◌, length};
 ghost use Rattle.player.specs.Calls.{next, fill, skip, rewind, item, filled, skipped, rewound};
+ghost use Rattle.player.specs.Runs.{EveryRunLawful};
 ghost use Rattle.player.specs.Standing.{next_answer, left_to_later, count_answer, buffer_after, onward, restarted, Plays, Stands};
 
 use crate::fault::PlayerFault;
-use crate::place::Place;
+use source::place::Place;
 use source::source::Source;
 use std::marker::Model;
 
+/// Plays one source, which may be any pile of stages.
 #[derive(Drop)]
 pub struct Player<S: Source> {
     source: S,
@@ -21,13 +23,17 @@ impl<S: Source> Model for Player<S> {
 
     ghost Value = { Standing S.Item };
 
-    ghost view = { λ p. record { whole = S.Source.whole p.source; left = S.Source.left p.source; place = p.place.count } };
+    ghost view = { λ p. record { whole = S.whole p.source; left = S.left p.source; place = p.place.count } };
 }
 
 impl<S: Source> Player<S> {
-    // A player at the start of the source's whole.
+    /// A player at the start of the source's whole. Whatever calls are then made of it, in any order and with any arguments:
+    /// what comes out at place k is item k of that whole, and its end or its fault is told exactly where items are wanted
+    /// and none is left.
+    #[tactic(auto, using(crate::proofs::Running::lawful))]
     pub fn new(source: S) -> Self
-        ensures stands { Stands result (S.Source.whole source) 0 }
+        ensures stands { Stands result (S.whole source) 0 }
+        ensures runs { EveryRunLawful result (S.whole source) }
     {
         let mut player = Player {
             source,
@@ -37,7 +43,7 @@ impl<S: Source> Player<S> {
         player
     }
 
-    // The next item; at the end no item, or the fault.
+    /// The next item; at the end no item, or the fault.
     #[inline(always)]
     pub fn next(&mut self) -> Result<Option<S::Item>, PlayerFault>
         ensures answers { result ≡ next_answer self.old }
@@ -64,8 +70,8 @@ impl<S: Source> Player<S> {
         }
     }
 
-    // Puts the next items into the buffer from its start, and answers how many; other places stay. Where items are
-    // wanted and none is left: 0, or the fault.
+    /// Puts the next items into the buffer from its start, and answers how many; other places stay. Where items are
+    /// wanted and none is left: 0, or the fault.
     pub fn fill(&mut self, buffer: &mut [S::Item]) -> Result<usize, PlayerFault>
         ensures answers { result ≡ count_answer (length buffer.old) self.old }
         ensures buffer { buffer.new ≡ buffer_after buffer.old self.old }
@@ -84,7 +90,7 @@ impl<S: Source> Player<S> {
         Ok(buffer.len())
     }
 
-    // Passes the next n items over, and answers how many. Where items are wanted and none is left: 0, or the fault.
+    /// Passes the next n items over, and answers how many. Where items are wanted and none is left: 0, or the fault.
     pub fn skip(&mut self, n: u32) -> Result<u32, PlayerFault>
         ensures answers { result ≡ count_answer n self.old }
         ensures moves { self.new ≡ onward n self.old }
@@ -100,7 +106,7 @@ impl<S: Source> Player<S> {
         Ok(n)
     }
 
-    // Back to the start.
+    /// Back to the start.
     pub fn rewind(&mut self)
         ensures moves { self.new ≡ restarted self.old }
         ensures plays { Plays rewind self.old self.new rewound }

@@ -1,5 +1,5 @@
 -- What was written comes back: opening a finished recording hands out what was put in.
-use Rattle.std.proofs.Common.{◌≡◌, ℕ, suc, ◌+◌, ◌-◌, ◌*◌, ◌/◌, ◌%◌, ◌^◌, ◌<◌, ◌≤◌, Bool, true, false, cond, ◌&&◌, eqb, ltb, leb, List, [], ◌∷◌, ◌++◌, map, length, take, ℤ, pos, negsuc, Some, None, Ok, Err, Option, Result, sym, refl, ap, ◌∙◌, ap₂, arith}
+use Rattle.std.proofs.Common.{◌≡◌, ℕ, suc, ◌+◌, ◌-◌, ◌*◌, ◌/◌, ◌%◌, ◌^◌, ◌<◌, ◌≤◌, Bool, true, false, cond, ◌&&◌, eqb, ltb, leb, List, [], ◌∷◌, ◌++◌, map, length, take, ℤ, pos, negsuc, Some, None, Ok, Err, Result, sym, refl, ap, ◌∙◌, ap₂, arith}
 use Rattle.std.proofs.lemmas.List.{take_all}
 use Rattle.std.proofs.lemmas.Int.{ints}
 use Rattle.std.proofs.lemmas.Bool.Decides.{nat_tests}
@@ -9,6 +9,7 @@ use Rattle.samples.specs.Kinds.{converter}
 use Rattle.samples.specs.declared.converter.ConverterSample.{ConverterSample}
 use Rattle.samples.specs.Equal.{same_sample}
 use Rattle.samples.specs.Widths.{clip_same}
+use Rattle.source.specs.declared.fault.FaultKind.{FaultKind}
 use Rattle.source.specs.declared.fault.FaultKind.TheVariants.{LowBits}
 use Rattle.source.specs.Streams.{Stream, tabulate}
 use Rattle.wave.specs.declared.chunks.Step.{Step}
@@ -44,33 +45,33 @@ pair_back : (v : ℕ) → v % 256 + 256 * (v / 256) ≡ v
 pair_back v = omega arith
 
 -- the sample in two words
-sample_in : (p q : ℕ) (x : ConverterSample) → p % 16 ≡ 0 → q % 16 ≡ 0 → part_of p ≡ x.re → part_of q ≡ x.im → cond (eqb (p % 16) 0 && eqb (q % 16) 0) (Some (converter (part_of p) (part_of q))) None ≡ Some x
+sample_in : (p q : ℕ) (x : ConverterSample) → p % 16 ≡ 0 → q % 16 ≡ 0 → part_of p ≡ x.re → part_of q ≡ x.im → cond (eqb (p % 16) 0 && eqb (q % 16) 0) (Ok (converter (part_of p) (part_of q))) (Err LowBits) ≡ Ok x
 sample_in p q x f g h i =
     let t : (eqb (p % 16) 0 && eqb (q % 16) 0) ≡ true = grind (arith, nat_tests) in
     let e : converter (part_of p) (part_of q) ≡ x = same_sample (converter (part_of p) (part_of q)) x (ap (clip 12) h ∙ clip_same 12 x.re x.re_within) (ap (clip 12) i ∙ clip_same 12 x.im x.im_within) in
-    ap (λ (c : Bool). cond c (Some (converter (part_of p) (part_of q))) None) t ∙ ap Some e
+    ap (λ (c : Bool). cond c (Ok (converter (part_of p) (part_of q))) (Err LowBits)) t ∙ ap Ok e
 
 -- a sample comes back from its bytes
-sample_back : (x : ConverterSample) (rest : List ℕ) → signal_item (take 4 (coded x ++ rest)) ≡ Some x
+sample_back : (x : ConverterSample) (rest : List ℕ) → signal_item (take 4 (coded x ++ rest)) ≡ Ok x
 sample_back x rest =
     let r = x.re_within in
     let i = x.im_within in
-    ap₂ (λ (p q : ℕ). cond (eqb (p % 16) 0 && eqb (q % 16) 0) (Some (converter (part_of p) (part_of q))) None) (pair_back (word x.re)) (pair_back (word x.im))
+    ap₂ (λ (p q : ℕ). cond (eqb (p % 16) 0 && eqb (q % 16) 0) (Ok (converter (part_of p) (part_of q))) (Err LowBits)) (pair_back (word x.re)) (pair_back (word x.im))
     ∙ sample_in (word x.re) (word x.im) x (word_clear x.re r) (word_clear x.im i) (word_back x.re r) (word_back x.im i)
 
 -- all samples come back from theirs
-slots_back : (xs : List ConverterSample) → tabulate (item_at signal_item 4 (flat_map coded xs)) 0 (length xs) ≡ map Some xs
+slots_back : (xs : List ConverterSample) → tabulate (item_at signal_item 4 (flat_map coded xs)) 0 (length xs) ≡ map Ok xs
 slots_back [] = refl
 slots_back (x ∷ xs) =
     peeled signal_item 4 (coded x ++ flat_map coded xs) (suc (length xs)) (length xs) refl
-    ∙ ap₂ (λ (y : Option ConverterSample) (ys : List (Option ConverterSample)). y ∷ ys) (sample_back x (flat_map coded xs)) (slots_back xs)
+    ∙ ap₂ (λ (y : Result ConverterSample FaultKind) (ys : List (Result ConverterSample FaultKind)). y ∷ ys) (sample_back x (flat_map coded xs)) (slots_back xs)
 
-all_sound : (input k : ℕ) (xs : List ConverterSample) → before_fault LowBits input k (map Some xs) ≡ record { items = xs; ending = Ok tt }
+all_sound : (input k : ℕ) (xs : List ConverterSample) → before_fault input k (map Ok xs) ≡ record { items = xs; ending = Ok tt }
 all_sound input k [] = refl
 all_sound input k (x ∷ xs) = ap (λ (s : Stream ConverterSample). record { items = x ∷ s.items; ending = s.ending }) (all_sound input (k + 1) xs)
 
-pub held_back : (input : ℕ) (xs : List ConverterSample) → held_from signal_item 4 LowBits input 0 (length xs) (flat_map coded xs) ≡ record { items = xs; ending = Ok tt }
-held_back input xs = ap (before_fault LowBits input 0) (slots_back xs) ∙ all_sound input 0 xs
+pub held_back : (input : ℕ) (xs : List ConverterSample) → held_from signal_item 4 input 0 (length xs) (flat_map coded xs) ≡ record { items = xs; ending = Ok tt }
+held_back input xs = ap (before_fault input 0) (slots_back xs) ∙ all_sound input 0 xs
 
 -- how long they are
 pub coded_length : (xs : List ConverterSample) → length (flat_map coded xs) ≡ 4 * length xs
@@ -203,6 +204,6 @@ module _ (rate : ℕ) (xs : List ConverterSample) (r : good_rate rate ≡ true) 
       let whole = held_back input xs in
       let counted : 4 * length xs / 4 ≡ length xs = omega arith in
       let all : take (4 * length xs) (flat_map coded xs) ≡ flat_map coded xs = take_all (4 * length xs) (flat_map coded xs) (let l = coded_length xs in omega arith) in
-      ap (opened signal_item 4 LowBits input (recorded rate xs)) found
-      ∙ ap₂ (λ (n : ℕ) (d : List ℕ). Ok (record { rate = rate; whole = held_from signal_item 4 LowBits input 0 n d })) counted all
+      ap (opened signal_item 4 input (recorded rate xs)) found
+      ∙ ap₂ (λ (n : ℕ) (d : List ℕ). Ok (record { rate = rate; whole = held_from signal_item 4 input 0 n d })) counted all
       ∙ ap (λ (w : Stream ConverterSample). Ok (record { rate = rate; whole = w })) whole

@@ -1,5 +1,6 @@
 -- A whole session: one recording of what a source has left, as far as there is room.
 use Rattle.std.specs.Prelude.{◌≡◌, ℕ, ◌-◌, ◌/◌, ◌≤◌, min, Bool, true, cond, ◌&&◌, List, length, take, Some, None, Ok, Err, Option, Result, nat_le}
+use Rattle.std.specs.List.{flat_map}
 use Rattle.samples.specs.declared.converter.ConverterSample.{ConverterSample}
 use Rattle.source.specs.Streams.{Ending, Stream, from}
 use Rattle.wave.specs.declared.refusal.OpeningRefusal.{OpeningRefusal}
@@ -11,7 +12,7 @@ use Rattle.recorder.specs.declared.session.Part.{Part}
 use Rattle.wave.specs.Bytes.{overwrite}
 use Rattle.wave.specs.Rates.{good_rate}
 use Rattle.recordings.specs.Opening.{Opened, HandsOut}
-use Rattle.recorder.specs.Writing.{size_of, recorded, good_buffer, fits, accepting}
+use Rattle.recorder.specs.Writing.{coded, size_of, recorded, good_buffer, fits, accepting}
 
 -- how many samples a buffer of len bytes has room for
 abbrev pub room : ℕ → ℕ
@@ -24,6 +25,10 @@ taken n s = min n (length s.items)
 -- the ending, where it is met: only if there is room for one more item than there are
 abbrev pub met : {T : Type 0} → ℕ → Stream T → Option Ending
 met n s = cond (nat_le n (length s.items)) None (Some s.ending)
+
+-- the bytes b of a started recording of n samples, after those of the stream that there is room for are put in
+abbrev pub filled : ℕ → ℕ → Stream ConverterSample → List ℕ → List ℕ
+filled n room s b = overwrite (size_of n) (flat_map coded (take (taken room s) s.items)) b
 
 -- rate and buffer are accepted
 abbrev pub accepted : ℕ → ℕ → Bool
@@ -65,11 +70,6 @@ rewrite_answer len (Ok o) = as_writing (record_answer len o.rate o.whole)
 abbrev pub after_rewrite : List ℕ → Result (Opened ConverterSample) OpeningRefusal → List ℕ
 after_rewrite b (Err e) = b
 after_rewrite b (Ok o) = after_record b o.rate o.whole
-
--- the recording that is handed back has the rest of it left
-abbrev pub GoesOn : ℕ → Result (Opened ConverterSample) OpeningRefusal → Stream ConverterSample → Stream ConverterSample → Type 0
-GoesOn len (Err e) whole left = ⊥
-GoesOn len (Ok o) whole left = (whole ≡ o.whole) × (left ≡ left_after_record len o.rate o.whole)
 
 -- The other round trip: a recording of the shape that we write, which fits the buffer, keeps every byte.
 abbrev pub Keeps : List ℕ → List ℕ → List ℕ → Result Part RewritingRefusal → Type 0

@@ -1,24 +1,30 @@
 // Why a recording is not written, or not rewritten.
-ghost use Rattle.std.specs.Prelude.{◌≡◌};
-ghost use Rattle.recorder.specs.Refusals.{writing_number};
+ghost use Rattle.std.specs.Prelude.{◌≡◌, Some};
+ghost use Rattle.recorder.specs.Refusals.{writing_number, writing_text, rewriting_number, rewriting_text};
 ghost use Rattle.recorder.specs.declared.refusal.RewritingRefusal.TheVariants.{Opening, Writing};
+ghost use Rattle.std.proofs.Common.{rules};
 
+use samples::exact::Exact;
 use std::fmt;
 use wave::refusal::OpeningRefusal;
 
-// Why the writer does not do what it was asked.
+/// Why the writer does not do what it was asked.
 #[derive(Clone, Copy, PartialEq, Eq, Debug)]
 pub enum WritingRefusal {
-    // The buffer has fewer than 44 or more than 65,536 bytes.
+    /// 14: the buffer has fewer than 44 or more than 65,536 bytes.
     Buffer,
-    // The samples do not fit the buffer or 65,536 bytes.
+    /// 15: the samples do not fit the buffer or 65,536 bytes.
     Full,
-    // The rate is outside 1 to 100,000,000.
+    /// 16: the rate is outside 1 to 100,000,000.
     Rate,
 }
 
+impl Exact for WritingRefusal {
+    ghost exact = { Prim.search rules };
+}
+
 impl WritingRefusal {
-    // The number by which the refusal is known.
+    /// The number by which the refusal is known, 14 to 16.
     pub fn number(self) -> u8
         ensures { result ≡ writing_number self }
     {
@@ -30,7 +36,10 @@ impl WritingRefusal {
     }
 }
 
+/// What must be, in words.
 impl fmt::Display for WritingRefusal {
+    ghost output = { λ r. Some (writing_text r) };
+
     fn fmt<W: fmt::Write>(&self, f: &mut fmt::Formatter<W>) -> fmt::Result {
         match *self {
             WritingRefusal::Buffer => write!(f, "the buffer must have 44 to 65536 bytes"),
@@ -40,13 +49,41 @@ impl fmt::Display for WritingRefusal {
     }
 }
 
-// Why a recording is not rewritten.
+/// Why a recording is not rewritten.
 #[derive(Clone, Copy, PartialEq, Eq, Debug)]
 pub enum RewritingRefusal {
-    // The bytes do not open.
+    /// The bytes do not open.
     Opening(OpeningRefusal),
-    // The buffer is not written.
+    /// The buffer is not written.
     Writing(WritingRefusal),
+}
+
+impl Exact for RewritingRefusal {
+    ghost exact = { Prim.search rules };
+}
+
+impl RewritingRefusal {
+    /// The number of the refusal that it holds, 8 to 11 or 14 to 16.
+    pub fn number(self) -> u8
+        ensures { result ≡ rewriting_number self }
+    {
+        match self {
+            RewritingRefusal::Opening(refusal) => refusal.number(),
+            RewritingRefusal::Writing(refusal) => refusal.number(),
+        }
+    }
+}
+
+/// The words of the refusal that it holds.
+impl fmt::Display for RewritingRefusal {
+    ghost output = { λ r. Some (rewriting_text r) };
+
+    fn fmt<W: fmt::Write>(&self, f: &mut fmt::Formatter<W>) -> fmt::Result {
+        match *self {
+            RewritingRefusal::Opening(refusal) => write!(f, "{refusal}"),
+            RewritingRefusal::Writing(refusal) => write!(f, "{refusal}"),
+        }
+    }
 }
 
 impl From<OpeningRefusal> for RewritingRefusal {

@@ -8,10 +8,10 @@ use crate::refusal::WritingRefusal;
 use samples::converter::ConverterSample;
 use wave::format::MAX_RATE;
 
-// The bytes before the samples.
+/// The bytes before the samples.
 pub const HEADER: usize = 44;
 
-// The most bytes that a recording is written with.
+/// The most bytes that a recording is written with.
 pub const MAX_BYTES: usize = 65536;
 
 // The rate and a buffer of so many bytes are accepted.
@@ -27,9 +27,9 @@ pub(crate) fn accept(length: usize, rate: u32) -> Result<(), WritingRefusal>
     Ok(())
 }
 
-// A started recording: how many samples were put in. Its bytes are lent at each call, as it may be another buffer each
-// time. It must be finished or abandoned: where a program lets it go, the check asks for a proof that it has as many samples
-// as its count can tell. None has: not when it starts, and no put makes it so.
+/// A started recording: how many samples were put in. Its bytes are lent at each call, as it may be another buffer each
+/// time. It must be finished or abandoned: where a program lets it go, the check asks for a proof that it has as many samples
+/// as its count can tell. None has: not when it starts, and no put makes it so.
 #[derive(Debug)]
 pub struct StartedRecording {
     samples: u32,
@@ -44,8 +44,8 @@ impl Drop for StartedRecording {
 }
 
 impl StartedRecording {
-    // Begins a recording at this rate, 1 to 100,000,000 samples a second (else refusal 16), in a buffer of 44 to 65,536
-    // bytes (else refusal 14). Writes the header, with both sizes 0.
+    /// Begins a recording at this rate, 1 to 100,000,000 samples a second (else refusal 16), in a buffer of 44 to 65,536
+    /// bytes (else refusal 14). Writes the header, with both sizes 0.
     pub fn start(bytes: &mut [u8], rate: u32) -> Result<StartedRecording, WritingRefusal>
         ensures answer { result ≡ start_answer (length bytes.old) rate }
         ensures bytes { bytes.new ≡ after_start bytes.old rate }
@@ -57,7 +57,7 @@ impl StartedRecording {
         Ok(StartedRecording { samples: 0 })
     }
 
-    // Adds a sample. Where it does not fit the buffer or 65,536 bytes, refusal 15, and nothing changes.
+    /// Adds a sample. Where it does not fit the buffer or 65,536 bytes, refusal 15, and nothing changes.
     pub fn put(&mut self, bytes: &mut [u8], sample: ConverterSample) -> Result<(), WritingRefusal>
         ensures answer { result ≡ put_answer (length bytes.old) self.old.samples }
         ensures count { self.new.samples ≡ put_count (length bytes.old) self.old.samples }
@@ -74,8 +74,8 @@ impl StartedRecording {
         Ok(())
     }
 
-    // Writes the two sizes and answers the length of the recording, which begins at the buffer's start. Where the
-    // samples do not fit this buffer or 65,536 bytes, refusal 15 gives the recording back, and nothing changes.
+    /// Writes the two sizes and answers the length of the recording in bytes, which begins at the buffer's start. Where the
+    /// samples do not fit this buffer or 65,536 bytes, refusal 15 gives the recording back, and nothing changes.
     pub fn finish(self, bytes: &mut [u8]) -> Result<usize, (WritingRefusal, StartedRecording)>
         ensures answer { result ≡ finish_answer (length bytes.old) self }
         ensures bytes { bytes.new ≡ after_finish bytes.old self.samples }
@@ -91,7 +91,7 @@ impl StartedRecording {
         Ok(size)
     }
 
-    // Lets the recording go unfinished, and answers how many samples were put in. No byte changes.
+    /// Lets the recording go unfinished, and answers how many samples were put in. No byte changes.
     pub fn abandon(self) -> u32
         ensures { result ≡ self.samples }
     {

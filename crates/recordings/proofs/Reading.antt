@@ -1,5 +1,5 @@
 -- Reading one item: what is left loses its first.
-use Rattle.std.proofs.Common.{◌≡◌, ℕ, zero, suc, ◌+◌, ◌-◌, ◌*◌, ◌/◌, ◌<◌, ◌≤◌, List, [], ◌∷◌, length, take, drop, Some, None, Ok, Err, Option, sym, refl, ap, ◌∙◌, ap₂, add-mul, one-mul, zero-mul, arith, length-drop}
+use Rattle.std.proofs.Common.{◌≡◌, ℕ, zero, suc, ◌+◌, ◌-◌, ◌*◌, ◌/◌, ◌<◌, ◌≤◌, List, [], ◌∷◌, length, take, drop, Some, None, Ok, Err, Result, sym, refl, ap, ◌∙◌, ap₂, add-mul, one-mul, zero-mul, arith, length-drop}
 use Rattle.std.proofs.Math.Nat.{div-eq-sub-div, div-eq_of_lt}
 use Rattle.std.proofs.lemmas.List.{drop-drop}
 use Rattle.source.specs.declared.fault.FaultKind.{FaultKind}
@@ -7,7 +7,7 @@ use Rattle.source.specs.Streams.{tabulate, answer, rest}
 use Rattle.recordings.specs.Items.{item_at, before_fault, held_from, left_of}
 
 -- the items from the second on are the items of what is behind the first
-shifted : {T : Type 0} (meaning : List ℕ → Option T) (a : ℕ) (d : List ℕ) (j n : ℕ) → tabulate (item_at meaning a d) (j + 1) n ≡ tabulate (item_at meaning a (drop a d)) j n
+shifted : {T : Type 0} (meaning : List ℕ → Result T FaultKind) (a : ℕ) (d : List ℕ) (j n : ℕ) → tabulate (item_at meaning a d) (j + 1) n ≡ tabulate (item_at meaning a (drop a d)) j n
 shifted meaning a d j zero = refl
 shifted meaning a d j (suc n) =
     let e : drop (j * a) (drop a d) ≡ drop ((j + 1) * a) d = drop-drop (j * a) a d ∙ ap (λ (k : ℕ). drop k d) (omega (arith, add-mul j 1 a, one-mul a)) in
@@ -16,11 +16,11 @@ shifted meaning a d j (suc n) =
     cc
 
 -- the first item, and the items behind it
-pub peeled : {T : Type 0} (meaning : List ℕ → Option T) (a : ℕ) (d : List ℕ) (n m : ℕ) → n ≡ suc m → tabulate (item_at meaning a d) 0 n ≡ meaning (take a d) ∷ tabulate (item_at meaning a (drop a d)) 0 m
+pub peeled : {T : Type 0} (meaning : List ℕ → Result T FaultKind) (a : ℕ) (d : List ℕ) (n m : ℕ) → n ≡ suc m → tabulate (item_at meaning a d) 0 n ≡ meaning (take a d) ∷ tabulate (item_at meaning a (drop a d)) 0 m
 peeled meaning a d n m h =
     let z : item_at meaning a d 0 ≡ meaning (take a d) = ap (λ (k : ℕ). meaning (take a (drop k d))) (zero-mul a) in
     let xs = shifted meaning a d 0 m in
-    ap (λ (k : ℕ). tabulate (item_at meaning a d) 0 k) h ∙ ap₂ (λ (y : Option _) (ys : List (Option _)). y ∷ ys) z xs
+    ap (λ (k : ℕ). tabulate (item_at meaning a d) 0 k) h ∙ ap₂ (λ (y : Result _ FaultKind) (ys : List (Result _ FaultKind)). y ∷ ys) z xs
 
 -- an item less is left, where there is room for one
 fewer : (a : ℕ) (r : List ℕ) → 0 < a → a ≤ length r → length r / a ≡ suc (length (drop a r) / a)
@@ -33,25 +33,30 @@ more a d r some h part =
     let e : a ≤ length d - length (drop a r) = omega (arith, length-drop a r) in
     div-eq-sub-div some e ∙ ap (λ (k : ℕ). k / a + 1) l
 
-module _ {T : Type 0} (meaning : List ℕ → Option T) (a : ℕ) (kind : FaultKind) (input : ℕ) (d r : List ℕ) (some : 0 < a) where
+module _ {T : Type 0} (meaning : List ℕ → Result T FaultKind) (a : ℕ) (input : ℕ) (d r : List ℕ) (some : 0 < a) where
   -- no item is left: that is answered, and nothing moves
-  pub ends : length r < a → (answer (left_of meaning a kind input d r) ≡ Ok None) × (left_of meaning a kind input d r ≡ rest (left_of meaning a kind input d r))
+  pub ends : length r < a → (answer (left_of meaning a input d r) ≡ Ok None) × (left_of meaning a input d r ≡ rest (left_of meaning a input d r))
   ends h =
-      let e : left_of meaning a kind input d r ≡ record { items = []; ending = Ok tt } = ap (λ (k : ℕ). held_from meaning a kind input ((length d - length r) / a) k r) (div-eq_of_lt h) in
+      let e : left_of meaning a input d r ≡ record { items = []; ending = Ok tt } = ap (λ (k : ℕ). held_from meaning a input ((length d - length r) / a) k r) (div-eq_of_lt h) in
       (ap answer e, e ∙ sym (ap rest e))
 
+  -- where one is left, it is the first, and the others are behind it
+  first : (y : Result T FaultKind) → a ≤ length r → meaning (take a r) ≡ y → tabulate (item_at meaning a r) 0 (length r / a) ≡ y ∷ tabulate (item_at meaning a (drop a r)) 0 (length (drop a r) / a)
+  first y h e =
+      let m = length (drop a r) / a in
+      peeled meaning a r (length r / a) m (fewer a r some h) ∙ ap (λ (y : Result T FaultKind). y ∷ tabulate (item_at meaning a (drop a r)) 0 m) e
+
   -- an item: it is answered, and what is left loses it
-  pub gives : (x : T) → a ≤ length r → length r ≤ length d → meaning (take a r) ≡ Some x → (answer (left_of meaning a kind input d r) ≡ Ok (Some x)) × (left_of meaning a kind input d (drop a r) ≡ rest (left_of meaning a kind input d r))
+  pub gives : (x : T) → a ≤ length r → length r ≤ length d → meaning (take a r) ≡ Ok x → (answer (left_of meaning a input d r) ≡ Ok (Some x)) × (left_of meaning a input d (drop a r) ≡ rest (left_of meaning a input d r))
   gives x h part e =
       let k = (length d - length r) / a in
       let m = length (drop a r) / a in
-      let p : tabulate (item_at meaning a r) 0 (length r / a) ≡ Some x ∷ tabulate (item_at meaning a (drop a r)) 0 (length (drop a r) / a) = peeled meaning a r (length r / a) m (fewer a r some h) ∙ ap (λ (y : Option T). y ∷ tabulate (item_at meaning a (drop a r)) 0 m) e in
-      (ap (λ (xs : List (Option T)). answer (before_fault kind input k xs)) p, ap (λ (j : ℕ). held_from meaning a kind input j m (drop a r)) (more a d r some h part) ∙ sym (ap (λ (xs : List (Option T)). rest (before_fault kind input k xs)) p))
+      let p = first (Ok x) h e in
+      (ap (λ (xs : List (Result T FaultKind)). answer (before_fault input k xs)) p, ap (λ (j : ℕ). held_from meaning a input j m (drop a r)) (more a d r some h part) ∙ sym (ap (λ (xs : List (Result T FaultKind)). rest (before_fault input k xs)) p))
 
-  -- none: the fault is answered, and nothing moves
-  pub fails : a ≤ length r → meaning (take a r) ≡ None → (answer (left_of meaning a kind input d r) ≡ Err (record { kind = kind; input = input; item = (length d - length r) / a })) × (left_of meaning a kind input d r ≡ rest (left_of meaning a kind input d r))
-  fails h e =
+  -- a fault: it is answered, and nothing moves
+  pub fails : (kind : FaultKind) → a ≤ length r → meaning (take a r) ≡ Err kind → (answer (left_of meaning a input d r) ≡ Err (record { kind = kind; input = input; item = (length d - length r) / a })) × (left_of meaning a input d r ≡ rest (left_of meaning a input d r))
+  fails kind h e =
       let k = (length d - length r) / a in
-      let m = length (drop a r) / a in
-      let p : tabulate (item_at meaning a r) 0 (length r / a) ≡ None ∷ tabulate (item_at meaning a (drop a r)) 0 (length (drop a r) / a) = peeled meaning a r (length r / a) m (fewer a r some h) ∙ ap (λ (y : Option T). y ∷ tabulate (item_at meaning a (drop a r)) 0 m) e in
-      (ap (λ (xs : List (Option T)). answer (before_fault kind input k xs)) p, ap (before_fault kind input k) p ∙ sym (ap (λ (xs : List (Option T)). rest (before_fault kind input k xs)) p))
+      let p = first (Err kind) h e in
+      (ap (λ (xs : List (Result T FaultKind)). answer (before_fault input k xs)) p, ap (before_fault input k) p ∙ sym (ap (λ (xs : List (Result T FaultKind)). rest (before_fault input k xs)) p))

@@ -1,10 +1,11 @@
 -- What the data of a recording holds.
-use Rattle.std.specs.Prelude.{ℕ, ◌+◌, ◌-◌, ◌*◌, ◌/◌, ◌%◌, Bool, cond, ◌&&◌, List, [], ◌∷◌, length, take, drop, ℤ, pos, negsuc, Some, None, Ok, Err, Option, ◌==◌, nat_le, nat_lt, slice_index}
+use Rattle.std.specs.Prelude.{ℕ, ◌+◌, ◌-◌, ◌*◌, ◌/◌, ◌%◌, Bool, cond, ◌&&◌, List, [], ◌∷◌, length, take, drop, ℤ, pos, negsuc, Ok, Err, Result, ◌==◌, nat_le, nat_lt, slice_index}
 use Rattle.samples.specs.Arithmetic.{floor_by}
 use Rattle.samples.specs.Kinds.{converter, gain_index}
 use Rattle.samples.specs.declared.converter.ConverterSample.{ConverterSample}
 use Rattle.samples.specs.declared.gain_index.GainIndex.{GainIndex}
 use Rattle.source.specs.declared.fault.FaultKind.{FaultKind}
+use Rattle.source.specs.declared.fault.FaultKind.TheVariants.{LowBits, GainOver}
 use Rattle.source.specs.Streams.{Ending, Stream, tabulate}
 use Rattle.wave.specs.Bytes.{u16_at}
 
@@ -20,41 +21,41 @@ part_of w = floor_by (signed16 w) 16
 abbrev pub low_bits_clear : List ℕ → Bool
 low_bits_clear b = u16_at b 0 % 16 == 0 && u16_at b 2 % 16 == 0
 
--- the sample in four bytes
-abbrev pub signal_item : List ℕ → Option ConverterSample
-signal_item b = cond (length b == 4 && low_bits_clear b) (Some (converter (part_of (u16_at b 0)) (part_of (u16_at b 2)))) None
+-- the sample in four bytes, or what is wrong with it (so for bytes of any other number too, which no recording hands it)
+abbrev pub signal_item : List ℕ → Result ConverterSample FaultKind
+signal_item b = cond (length b == 4 && low_bits_clear b) (Ok (converter (part_of (u16_at b 0)) (part_of (u16_at b 2)))) (Err LowBits)
 
--- the gain index in one byte
-abbrev pub gain_item : List ℕ → Option GainIndex
-gain_item b = cond (length b == 1 && nat_le (slice_index b 0) 127) (Some (gain_index (pos (slice_index b 0)))) None
+-- the gain index in one byte, or what is wrong with it (so for bytes of any other number too, which no recording hands it)
+abbrev pub gain_item : List ℕ → Result GainIndex FaultKind
+gain_item b = cond (length b == 1 && nat_le (slice_index b 0) 127) (Ok (gain_index (pos (slice_index b 0)))) (Err GainOver)
 
 -- item k of the data d, where an item has a bytes
-abbrev pub item_at : {T : Type 0} → (List ℕ → Option T) → ℕ → List ℕ → ℕ → Option T
+abbrev pub item_at : {T : Type 0} → (List ℕ → Result T FaultKind) → ℕ → List ℕ → ℕ → Result T FaultKind
 item_at meaning a d k = meaning (take a (drop (k * a) d))
 
--- the items before the first that is missing
-abbrev pub sound : {T : Type 0} → List (Option T) → List T
+-- the items before the first that has a fault
+abbrev pub sound : {T : Type 0} → List (Result T FaultKind) → List T
 sound [] = []
-sound (None ∷ xs) = []
-sound (Some x ∷ xs) = x ∷ sound xs
+sound (Err kind ∷ xs) = []
+sound (Ok x ∷ xs) = x ∷ sound xs
 
--- how they end, if the first of them has the place k: where one is missing, with the fault that names it
-abbrev pub ending_of : {T : Type 0} → FaultKind → ℕ → ℕ → List (Option T) → Ending
-ending_of kind input k [] = Ok tt
-ending_of kind input k (None ∷ xs) = Err (record { kind = kind; input = input; item = k })
-ending_of kind input k (Some x ∷ xs) = ending_of kind input (k + 1) xs
+-- how they end, if the first of them has the place k: where one has a fault, with that fault, its input and its place
+abbrev pub ending_of : {T : Type 0} → ℕ → ℕ → List (Result T FaultKind) → Ending
+ending_of input k [] = Ok tt
+ending_of input k (Err kind ∷ xs) = Err (record { kind = kind; input = input; item = k })
+ending_of input k (Ok x ∷ xs) = ending_of input (k + 1) xs
 
-abbrev pub before_fault : {T : Type 0} → FaultKind → ℕ → ℕ → List (Option T) → Stream T
-before_fault kind input k xs = record { items = sound xs; ending = ending_of kind input k xs }
+abbrev pub before_fault : {T : Type 0} → ℕ → ℕ → List (Result T FaultKind) → Stream T
+before_fault input k xs = record { items = sound xs; ending = ending_of input k xs }
 
 -- what the first n items of the data d are, if the first of them has the place k
-abbrev pub held_from : {T : Type 0} → (List ℕ → Option T) → ℕ → FaultKind → ℕ → ℕ → ℕ → List ℕ → Stream T
-held_from meaning a kind input k n d = before_fault kind input k (tabulate (item_at meaning a d) 0 n)
+abbrev pub held_from : {T : Type 0} → (List ℕ → Result T FaultKind) → ℕ → ℕ → ℕ → ℕ → List ℕ → Stream T
+held_from meaning a input k n d = before_fault input k (tabulate (item_at meaning a d) 0 n)
 
 -- everything that the data d hold
-abbrev pub whole_of : {T : Type 0} → (List ℕ → Option T) → ℕ → FaultKind → ℕ → List ℕ → Stream T
-whole_of meaning a kind input d = held_from meaning a kind input 0 (length d / a) d
+abbrev pub whole_of : {T : Type 0} → (List ℕ → Result T FaultKind) → ℕ → ℕ → List ℕ → Stream T
+whole_of meaning a input d = held_from meaning a input 0 (length d / a) d
 
 -- what the rest r of the data d holds
-abbrev pub left_of : {T : Type 0} → (List ℕ → Option T) → ℕ → FaultKind → ℕ → List ℕ → List ℕ → Stream T
-left_of meaning a kind input d r = held_from meaning a kind input ((length d - length r) / a) (length r / a) r
+abbrev pub left_of : {T : Type 0} → (List ℕ → Result T FaultKind) → ℕ → ℕ → List ℕ → List ℕ → Stream T
+left_of meaning a input d r = held_from meaning a input ((length d - length r) / a) (length r / a) r

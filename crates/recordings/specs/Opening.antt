@@ -1,10 +1,9 @@
 -- What opening answers, for every byte string.
-use Rattle.std.specs.Prelude.{◌≡◌, ℕ, ◌/◌, List, take, drop, Ok, Err, Option, Result}
+use Rattle.std.specs.Prelude.{◌≡◌, ℕ, ◌/◌, List, take, drop, Ok, Err, Result, MatchResult}
 use Rattle.std.proofs.Common.{lit<}
 use Rattle.samples.specs.declared.converter.ConverterSample.{ConverterSample}
 use Rattle.samples.specs.declared.gain_index.GainIndex.{GainIndex}
 use Rattle.source.specs.declared.fault.FaultKind.{FaultKind}
-use Rattle.source.specs.declared.fault.FaultKind.TheVariants.{LowBits, GainOver}
 use Rattle.source.specs.Streams.{Stream}
 use Rattle.wave.specs.declared.chunks.Found.{Found}
 use Rattle.wave.specs.declared.format.Format.{Format}
@@ -21,27 +20,31 @@ pub record Opened (T : Type 0) : Type 0 where
 abbrev pub content : List ℕ → Found → List ℕ
 content b found = take found.size (drop found.start b)
 
-abbrev pub opened : {T : Type 0} → (List ℕ → Option T) → ℕ → FaultKind → ℕ → List ℕ → Result Found OpeningRefusal → Result (Opened T) OpeningRefusal
-opened meaning a kind input b (Err e) = Err e
-opened meaning a kind input b (Ok found) = Ok (record { rate = found.rate; whole = held_from meaning a kind input 0 (found.size / a) (content b found) })
+abbrev pub opened : {T : Type 0} → (List ℕ → Result T FaultKind) → ℕ → ℕ → List ℕ → Result Found OpeningRefusal → Result (Opened T) OpeningRefusal
+opened meaning a input b (Err e) = Err e
+opened meaning a input b (Ok found) = Ok (record { rate = found.rate; whole = held_from meaning a input 0 (found.size / a) (content b found) })
 
 -- the bytes b, opened as a recording of the format f with the input number that is given
-abbrev pub opening : {T : Type 0} → Format → (List ℕ → Option T) → FaultKind → ℕ → List ℕ → Result (Opened T) OpeningRefusal
-opening f meaning kind input b = opened meaning f.align kind input b (find_data f b)
+abbrev pub opening : {T : Type 0} → Format → (List ℕ → Result T FaultKind) → ℕ → List ℕ → Result (Opened T) OpeningRefusal
+opening f meaning input b = opened meaning f.align input b (find_data f b)
+
+-- a call is answered as defined: what it hands back tells the defined value, or the call is refused for the defined reason
+abbrev pub AsDefined : {R A E : Type 0} → Result R E → Result A E → (R → A) → Type 0
+AsDefined result defined tells = MatchResult result (λ x. defined ≡ Ok (tells x)) (λ e. defined ≡ Err e)
 
 -- a signal recording: 2 channels, 4 bytes a sample, 12 bits
 abbrev pub signal_format : Format
 signal_format = record { channels = 2; align = 4; bits = 12; takes_room = lit< tt }
 
 abbrev pub signal_opening : ℕ → List ℕ → Result (Opened ConverterSample) OpeningRefusal
-signal_opening input b = opening signal_format signal_item LowBits input b
+signal_opening input b = opening signal_format signal_item input b
 
 -- a gain recording: 1 channel, 1 byte an index, 8 bits
 abbrev pub gain_format : Format
 gain_format = record { channels = 1; align = 1; bits = 8; takes_room = lit< tt }
 
 abbrev pub gain_opening : ℕ → List ℕ → Result (Opened GainIndex) OpeningRefusal
-gain_opening input b = opening gain_format gain_item GainOver input b
+gain_opening input b = opening gain_format gain_item input b
 
 -- these bytes, opened, hand out exactly these samples, at this rate, and are finished then
 abbrev pub HandsOut : List ℕ → ℕ → List ConverterSample → Type 0

@@ -1,8 +1,7 @@
 // The two kinds of recording: how an item stands in its bytes.
-ghost use Rattle.std.specs.Prelude.{◌≡◌, ℕ, List, Option};
+ghost use Rattle.std.specs.Prelude.{◌≡◌, ℕ, List, Result};
 ghost use Rattle.wave.specs.declared.format.Format.{Format};
 ghost use Rattle.source.specs.declared.fault.FaultKind.{FaultKind};
-ghost use Rattle.source.specs.declared.fault.FaultKind.TheVariants.{LowBits, GainOver};
 ghost use Rattle.recordings.specs.Opening.{signal_format, gain_format};
 ghost use Rattle.recordings.specs.Items.{part_of, signal_item, gain_item};
 
@@ -12,29 +11,30 @@ use samples::sample::Sample;
 use source::fault::FaultKind;
 use wave::format::Format;
 
-// A kind of recording: its format, and what the bytes of one item mean.
+/// A kind of recording: its format, and what the bytes of one item mean. Each item may have a fault of its own kind; a
+/// layout in which all bytes are good has none.
 pub trait Layout {
+    /// What an item is once it is read.
     type Item: Copy;
 
+    /// What every recording of this kind has in its format chunk.
     const FORMAT: Format;
-    // of bytes that hold no item
-    const FAULT: FaultKind;
 
     ghost FORMAT: { Format };
+    // the item that these bytes hold, or what is wrong with it
+    ghost meaning: { List ℕ → Result Self.Item FaultKind };
 
-    ghost FAULT: { FaultKind };
-    // the item that these bytes hold, if they hold one
-    ghost meaning: { List ℕ → Option Self.Item };
-
-    fn read(bytes: &[u8]) -> Option<Self::Item>
+    /// The item in these bytes, or what is wrong with it. A recording hands exactly `FORMAT.align` bytes.
+    fn read(bytes: &[u8]) -> Result<Self::Item, FaultKind>
         ensures { result ≡ meaning bytes.now };
 }
 
-// A signal recording: two channels, the value of a part in the upper 12 of 16 bits.
+/// A signal recording: two channels, the value of a part in the upper 12 of 16 bits. A sample is bad, fault 12, if the low
+/// four bits of a part are not 0.
 #[derive(Clone, Copy)]
 pub struct Signal;
 
-// A gain recording: one channel, a byte for each gain index.
+/// A gain recording: one channel, a byte for each gain index, 0 to 127. A byte over 127 is bad, fault 13.
 #[derive(Clone, Copy)]
 pub struct Gains;
 
@@ -54,24 +54,19 @@ impl Layout for Signal {
         bits: 12,
     };
 
-    const FAULT: FaultKind = FaultKind::LowBits;
-
     ghost FORMAT = { signal_format };
-
-    ghost FAULT = { LowBits };
 
     ghost meaning = { signal_item };
 
-    fn read(bytes: &[u8]) -> Option<ConverterSample> {
-        let [re_low, re_high, im_low, im_high] = *bytes else {
-            return None;
-        };
-        let re = u16::from_le_bytes([re_low, re_high]);
-        let im = u16::from_le_bytes([im_low, im_high]);
-        if re % 16 != 0 || im % 16 != 0 {
-            return None;
+    fn read(bytes: &[u8]) -> Result<ConverterSample, FaultKind> {
+        match *bytes {
+            [re_low, re_high, im_low, im_high] if re_low % 16 == 0 && im_low % 16 == 0 => {
+                let re = u16::from_le_bytes([re_low, re_high]);
+                let im = u16::from_le_bytes([im_low, im_high]);
+                Ok(ConverterSample::new(part_of(re), part_of(im)))
+            }
+            _ => Err(FaultKind::LowBits),
         }
-        Some(ConverterSample::new(part_of(re), part_of(im)))
     }
 }
 
@@ -84,18 +79,14 @@ impl Layout for Gains {
         bits: 8,
     };
 
-    const FAULT: FaultKind = FaultKind::GainOver;
-
     ghost FORMAT = { gain_format };
-
-    ghost FAULT = { GainOver };
 
     ghost meaning = { gain_item };
 
-    fn read(bytes: &[u8]) -> Option<GainIndex> {
+    fn read(bytes: &[u8]) -> Result<GainIndex, FaultKind> {
         match *bytes {
-            [index] if index <= 127 => Some(GainIndex::new(i64::from(index))),
-            _ => None,
+            [index] if index <= 127 => Ok(GainIndex::new(i64::from(index))),
+            _ => Err(FaultKind::GainOver),
         }
     }
 }

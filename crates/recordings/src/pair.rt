@@ -1,21 +1,30 @@
 // Both recordings of a link, the signal and its gain indices.
-ghost use Rattle.std.specs.Prelude.{◌≡◌, IfOk, Ok, Err, MatchResult};
+ghost use Rattle.std.specs.Prelude.{◌≡◌, IfOk};
+ghost use Rattle.recordings.specs.Opening.{AsDefined};
 ghost use Rattle.recordings.specs.Pair.{input_number, link_opening};
+ghost use Rattle.std.proofs.Common.{rules};
 
 use crate::layout::{Gains, Signal};
 use crate::recording::Recording;
+use samples::exact::Exact;
 use source::source::Source;
 use wave::refusal::OpeningRefusal;
 
-// Which of the two.
+/// Which of the two.
 #[derive(Clone, Copy, PartialEq, Eq, Debug)]
 pub enum Input {
+    /// The signal recording, input 0.
     Signal,
+    /// The gain recording, input 1.
     Gain,
 }
 
+impl Exact for Input {
+    ghost exact = { Prim.search rules };
+}
+
 impl Input {
-    // The input number, by which its faults name it.
+    /// The input number, by which its faults name it: 0 for the signal, 1 for the gain.
     pub fn number(self) -> u8
         ensures { result ≡ input_number self }
     {
@@ -26,21 +35,37 @@ impl Input {
     }
 }
 
+/// Both, opened.
 #[derive(Drop)]
 pub struct LinkRecordings<'a> {
+    /// Faults name it by input 0.
     pub signal: Recording<'a, Signal>,
+    /// Faults name it by input 1. Its rate may be another one.
     pub gain: Recording<'a, Gains>,
 }
 
 impl<'a> LinkRecordings<'a> {
-    // Opens both, the signal first; a refusal says whose it is.
+    /// Opens both, the signal first. The first that is refused is answered with its refusal.
     pub fn open(
         signal: &'a [u8],
         gain: &'a [u8],
     ) -> Result<LinkRecordings<'a>, (Input, OpeningRefusal)>
-        ensures answer { MatchResult result (λ x. link_opening signal.now gain.now ≡ Ok (record { rate = x.signal.rate; whole = ⟦<Recording<'a, Signal> as Source>⟧.whole x.signal }, record { rate = x.gain.rate; whole = ⟦<Recording<'a, Gains> as Source>⟧.whole x.gain })) (λ e. link_opening signal.now gain.now ≡ Err e) }
-        ensures signal_left { IfOk result (λ x. ⟦<Recording<'a, Signal> as Source>⟧.left x.signal ≡ ⟦<Recording<'a, Signal> as Source>⟧.whole x.signal) }
-        ensures gain_left { IfOk result (λ x. ⟦<Recording<'a, Gains> as Source>⟧.left x.gain ≡ ⟦<Recording<'a, Gains> as Source>⟧.whole x.gain) }
+        ensures answer { AsDefined result (link_opening signal.now gain.now) (λ x. (
+          record {
+            rate = x.signal.rate;
+            whole = ⟦<Recording<'a, Signal> as Source>⟧.whole x.signal;
+          },
+          record {
+            rate = x.gain.rate;
+            whole = ⟦<Recording<'a, Gains> as Source>⟧.whole x.gain;
+          },
+        )) }
+        ensures signal_left { IfOk result (λ x.
+            ⟦<Recording<'a, Signal> as Source>⟧.left x.signal
+            ≡ ⟦<Recording<'a, Signal> as Source>⟧.whole x.signal) }
+        ensures gain_left { IfOk result (λ x.
+            ⟦<Recording<'a, Gains> as Source>⟧.left x.gain
+            ≡ ⟦<Recording<'a, Gains> as Source>⟧.whole x.gain) }
     {
         let signal = Recording::open(signal, Input::Signal.number()).map_err(|e| (
             Input::Signal,

@@ -1,7 +1,7 @@
 // A recording that was opened: a source of the items in its data.
-ghost use Rattle.std.specs.Prelude.{◌≡◌, ◌≤◌, length, IfOk, Ok, Err, MatchResult};
+ghost use Rattle.std.specs.Prelude.{◌≡◌, ◌≤◌, length, IfOk};
 ghost use Rattle.recordings.specs.Items.{whole_of, left_of};
-ghost use Rattle.recordings.specs.Opening.{opening};
+ghost use Rattle.recordings.specs.Opening.{opening, AsDefined};
 ghost use Rattle.source.specs.Streams.{answer, rest};
 
 use crate::layout::Layout;
@@ -11,36 +11,47 @@ use std::marker::PhantomData;
 use wave::chunks::{Found, find_data};
 use wave::refusal::OpeningRefusal;
 
-// The bytes of all its items, and of those that are left.
+/// What a recording holds: a source of its items. The fault of a bad item holds what is wrong with it, the recording's
+/// input number, and the item's place, from 0.
 #[derive(Drop)]
-pub struct Recording<'a, L> {
-    rate: u32,
+pub struct Content<'a, L> {
     // Any number: who opens the bytes chooses it.
     input: u8,
+    // The bytes of all items, and of those that are left.
     whole: &'a [u8],
     left: &'a [u8],
     layout: PhantomData<L>,
     ghost part: { length left.now ≤ length whole.now },
 }
 
+/// An opened recording: a source of its items, which knows its rate.
+#[derive(Drop)]
+pub struct Recording<'a, L> {
+    rate: u32,
+    /// Its items. Who lends this part alone knows that the rate stays.
+    pub content: Content<'a, L>,
+}
+
 impl<'a, L: Layout> Recording<'a, L> {
-    // Opens the bytes as a recording of the kind L; its faults will name it by the input number.
+    /// Opens the bytes as a recording of the kind L; its faults will name it by the input number, 0 to 255. Refused, with
+    /// a byte place, where the bytes are no such recording. No item is looked at yet.
     pub fn open(bytes: &'a [u8], input: u8) -> Result<Self, OpeningRefusal>
-        ensures answer { MatchResult result (λ x. opening L.FORMAT L.meaning L.FAULT input bytes.now ≡ Ok (record { rate = x.rate; whole = ⟦<Recording<'a, L> as Source>⟧.whole x })) (λ e. opening L.FORMAT L.meaning L.FAULT input bytes.now ≡ Err e) }
-        ensures left { IfOk result (λ x. ⟦<Recording<'a, L> as Source>⟧.left x ≡ ⟦<Recording<'a, L> as Source>⟧.whole x) }
+        ensures answer { AsDefined result (opening L.FORMAT L.meaning input bytes.now)
+            (λ x. record { rate = x.rate; whole = ⟦<Self as Source>⟧.whole x }) }
+        ensures left { IfOk result (λ x. ⟦<Self as Source>⟧.left x ≡ ⟦<Self as Source>⟧.whole x) }
     {
         let Found { rate, start, size } = find_data(bytes, L::FORMAT)?;
         let whole = &bytes[start..start + size];
-        Ok(Recording {
-            rate,
+        let content = Content {
             input,
             whole,
             left: whole,
             layout: PhantomData,
-        })
+        };
+        Ok(Recording { rate, content })
     }
 
-    // The samples a second that the recording was made with.
+    /// The items a second that the recording was made with, 1 to 100,000,000.
     pub fn rate(&self) -> u32
         ensures { result ≡ self.now.rate }
     {
@@ -48,12 +59,47 @@ impl<'a, L: Layout> Recording<'a, L> {
     }
 }
 
+impl<'a, L: Layout> Source for Content<'a, L> {
+    type Item = L::Item;
+
+    ghost whole = { λ s. whole_of L.meaning L.FORMAT.align s.input s.whole.now };
+
+    ghost left = { λ s. left_of L.meaning L.FORMAT.align s.input s.whole.now s.left.now };
+
+    #[inline(always)]
+    fn next(&mut self) -> Result<Option<L::Item>, Fault> {
+        let align = usize::from(L::FORMAT.align);
+        if self.left.len() < align {
+            return Ok(None);
+        }
+        let (bytes, rest) = self.left.split_at(align);
+        match L::read(bytes) {
+            Ok(item) => {
+                self.left = rest;
+                Ok(Some(item))
+            }
+            Err(kind) => {
+                let item = (self.whole.len() - self.left.len()) / align;
+                Err(Fault {
+                    kind,
+                    input: self.input,
+                    item: item as u64,
+                })
+            }
+        }
+    }
+
+    fn rewind(&mut self) {
+        self.left = self.whole;
+    }
+}
+
 impl<'a, L: Layout> Source for Recording<'a, L> {
     type Item = L::Item;
 
-    ghost whole = { λ s. whole_of L.meaning L.FORMAT.align L.FAULT s.input s.whole.now };
+    ghost whole = { λ s. ⟦<Content<'a, L> as Source>⟧.whole s.content };
 
-    ghost left = { λ s. left_of L.meaning L.FORMAT.align L.FAULT s.input s.whole.now s.left.now };
+    ghost left = { λ s. ⟦<Content<'a, L> as Source>⟧.left s.content };
 
     // The clauses of every source, and that the rate stays.
     #[inline(always)]
@@ -63,21 +109,7 @@ impl<'a, L: Layout> Source for Recording<'a, L> {
         ensures same { ⟦<Self as Source>⟧.whole self.new ≡ ⟦<Self as Source>⟧.whole self.old }
         ensures rate { self.new.rate ≡ self.old.rate }
     {
-        let align = usize::from(L::FORMAT.align);
-        if self.left.len() < align {
-            return Ok(None);
-        }
-        let (bytes, rest) = self.left.split_at(align);
-        let Some(item) = L::read(bytes) else {
-            let item = (self.whole.len() - self.left.len()) / align;
-            return Err(Fault {
-                kind: L::FAULT,
-                input: self.input,
-                item: item as u64,
-            });
-        };
-        self.left = rest;
-        Ok(Some(item))
+        self.content.next()
     }
 
     fn rewind(&mut self)
@@ -85,6 +117,6 @@ impl<'a, L: Layout> Source for Recording<'a, L> {
         ensures same { ⟦<Self as Source>⟧.whole self.new ≡ ⟦<Self as Source>⟧.whole self.old }
         ensures rate { self.new.rate ≡ self.old.rate }
     {
-        self.left = self.whole;
+        self.content.rewind();
     }
 }

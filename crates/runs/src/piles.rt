@@ -4,7 +4,7 @@ use crate::random::Random;
 use chain::standard::{StandardChain, standard_chain};
 use comparison::whole::Whole;
 use impairments::adding::Adding;
-use impairments::gains::{ChannelGain, ReceiveGain};
+use impairments::gains::{FixedGain, ReceiveGain};
 use impairments::multipath::Multipath;
 use impairments::scaling::Scaling;
 use link::settings::Settings;
@@ -21,7 +21,7 @@ use stages::noise::Noise;
 use stages::pairing::Pairing;
 use stages::scan::Scan;
 use std::alloc::Global;
-use turns::frequency::FrequencyOffset;
+use turns::frequency::Rotator;
 
 // How many items of noise there are.
 const NOISE_ITEMS: u32 = 150;
@@ -34,9 +34,9 @@ type Scaled<'a> = Each<Signal<'a>, Scaling>;
 
 type Echoes<'a> = Scan<Clock<Lead<Scaled<'a>>>, Multipath>;
 
-type Turns<'a> = Scan<Scan<Scaled<'a>, Multipath>, FrequencyOffset>;
+type Turns<'a> = Scan<Scan<Scaled<'a>, Multipath>, Rotator>;
 
-type Noisy<'a> = Each<Pairing<Each<Scaled<'a>, ChannelGain>, Noise>, Adding>;
+type Noisy<'a> = Each<Pairing<Each<Scaled<'a>, FixedGain<WorkingSample>>, Noise>, Adding>;
 
 type Gained<'a> = Each<Pairing<Noise, Lead<Indices<'a>>>, ReceiveGain>;
 
@@ -73,7 +73,7 @@ impl Inputs {
     }
 
     fn scaled(&self) -> Scaled<'_> {
-        Each::new(Scaling::new(self.settings.scale.factor), self.signal())
+        Each::new(self.settings.scale, self.signal())
     }
 
     // Multipath over clock offset over lead over scaling.
@@ -88,12 +88,12 @@ impl Inputs {
     // Frequency offset over multipath over scaling.
     pub(crate) fn turns(&self) -> Turns<'_> {
         let echoed = Scan::new(Multipath::new(self.settings.paths), self.scaled());
-        Scan::new(FrequencyOffset::new(self.settings.frequency.f), echoed)
+        Scan::new(Rotator::new(self.settings.frequency), echoed)
     }
 
     // Noise added to gain over scaling.
     pub(crate) fn noisy(&self) -> Noisy<'_> {
-        let air = Each::new(ChannelGain::new(self.settings.gain), self.scaled());
+        let air = Each::new(FixedGain::new(self.settings.gain), self.scaled());
         Each::new(Adding, Pairing::new(air, self.noise()))
     }
 

@@ -12,6 +12,7 @@
 pub mod arithmetic;
 pub mod complex;
 pub mod converter;
+pub mod exact;
 pub mod gain_index;
 pub mod interpolation;
 pub mod kinds;

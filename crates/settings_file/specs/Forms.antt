@@ -27,6 +27,10 @@ name_of (Lead d) = codes "lead"
 name_of (RxDc re im) = codes "rx_dc"
 name_of (RxImbalance a b c) = codes "rx_imbalance"
 
+-- a path by its parts and delay
+abbrev pub path_of : ℤ × ℤ × ℕ → RawPath
+path_of row = record { re = row.0; im = row.1; delay = row.2 }
+
 -- the words are rows of an amplitude and a phase, and of a path's parts and delay
 abbrev pub TableOf : List (List ℕ) → List ℕ → List ℤ → Type 0
 TableOf words amplitudes phases =
@@ -36,7 +40,7 @@ TableOf words amplitudes phases =
 abbrev pub PathsOf : List (List ℕ) → List RawPath → Type 0
 PathsOf words paths =
     (rows : List (ℤ × ℤ × ℕ)) × SayRows (λ ws row. ThreeSay (signed 15) (signed 15) (unsigned 16) ws row.0 row.1 row.2) words rows
-    × (paths ≡ map (λ row. record { re = row.0; im = row.1; delay = row.2 }) rows)
+    × (paths ≡ map path_of rows)
 
 -- the words behind the name spell the setting's numbers
 abbrev pub SpellNumbers : List (List ℕ) → Setting → Type 0
@@ -91,6 +95,13 @@ i64_kind = kind_of (signed 63) i64_range
 abbrev pub switch_kind : Kind
 switch_kind = kind_of switch switch_range
 
+-- the numbers of a row: an amplitude and a phase; a path's parts and delay
+abbrev pub table_kinds : List Kind
+table_kinds = u16_kind ∷ i16_kind ∷ []
+
+abbrev pub path_kinds : List Kind
+path_kinds = i16_kind ∷ i16_kind ∷ u16_kind ∷ []
+
 abbrev pub one_row : List ℕ → List Kind → Form
 one_row text kinds = record { text = text; kinds = kinds; many = false }
 
@@ -102,9 +113,9 @@ forms =
     (codes "scale", one_row (codes "scale f") (u16_kind ∷ []))
     ∷ (codes "tx_dc", one_row (codes "tx_dc re im") (i16_kind ∷ i16_kind ∷ []))
     ∷ (codes "tx_imbalance", one_row (codes "tx_imbalance a b c") (i16_kind ∷ i16_kind ∷ i16_kind ∷ []))
-    ∷ (codes "amplifier_table", many_rows (codes "amplifier_table A0 phase0 A1 phase1 ..") (u16_kind ∷ i16_kind ∷ []))
+    ∷ (codes "amplifier_table", many_rows (codes "amplifier_table A0 phase0 A1 phase1 ..") table_kinds)
     ∷ (codes "amplifier_bypass", one_row (codes "amplifier_bypass 0|1") (switch_kind ∷ []))
-    ∷ (codes "paths", many_rows (codes "paths re im delay re im delay ..") (i16_kind ∷ i16_kind ∷ u16_kind ∷ []))
+    ∷ (codes "paths", many_rows (codes "paths re im delay re im delay ..") path_kinds)
     ∷ (codes "frequency", one_row (codes "frequency F") (i64_kind ∷ []))
     ∷ (codes "clock", one_row (codes "clock c") (i64_kind ∷ []))
     ∷ (codes "clock_bypass", one_row (codes "clock_bypass 0|1") (switch_kind ∷ []))

@@ -1,3 +1,4 @@
 pub mod Files
 pub mod Forms
+pub mod Messages
 pub mod Settings

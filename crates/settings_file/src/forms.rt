@@ -1,8 +1,8 @@
 // The forms of the lines: which word names which setting, and which numbers stand behind it.
-ghost use Rattle.std.specs.Prelude.{[], ◌∷◌, MatchResult};
+ghost use Rattle.std.specs.Prelude.{MatchResult};
 ghost use Rattle.lines.specs.Faults.{NoRows};
 ghost use Rattle.lines.specs.Taking.{numbers_left};
-ghost use Rattle.settings_file.specs.Forms.{Says, Complains, u16_kind, i16_kind, SpellsTable, SpellsPaths};
+ghost use Rattle.settings_file.specs.Forms.{Says, Complains, SpellsTable, SpellsPaths, table_kinds, path_kinds};
 
 use crate::setting::Setting;
 use lines::entries::Form;
@@ -12,30 +12,38 @@ use lines::number::Switch;
 use lines::numbers::Numbers;
 use link::paths::RawPath;
 
+// A `for` in both: only so it is known that without rows no memory is taken.
 fn table(numbers: Numbers<'_>) -> Result<Setting, Wrong>
-    ensures { MatchResult result (SpellsTable (numbers_left numbers.entry)) (NoRows numbers.entry.form.now (u16_kind ∷ i16_kind ∷ []) (numbers_left numbers.entry)) }
+    ensures { MatchResult result
+        (SpellsTable (numbers_left numbers.entry))
+        (NoRows numbers.entry.form.now table_kinds (numbers_left numbers.entry)) }
 {
     let rows: Vec<(u16, i16)> = numbers.rows()?;
     let heap = *rows.allocator();
-    Ok(Setting::AmplifierTable {
-        amplitudes: rows.iter().map(|row| row.0).collect(heap)?,
-        phases: rows.iter().map(|row| row.1).collect(heap)?,
-    })
+    let mut amplitudes = Vec::new(heap);
+    let mut phases = Vec::new(heap);
+    for row in &rows {
+        amplitudes.push(row.0)?;
+        phases.push(row.1)?;
+    }
+    Ok(Setting::AmplifierTable { amplitudes, phases })
 }
 
 fn paths(numbers: Numbers<'_>) -> Result<Setting, Wrong>
-    ensures { MatchResult result (SpellsPaths (numbers_left numbers.entry)) (NoRows numbers.entry.form.now (i16_kind ∷ i16_kind ∷ u16_kind ∷ []) (numbers_left numbers.entry)) }
+    ensures { MatchResult result
+        (SpellsPaths (numbers_left numbers.entry))
+        (NoRows numbers.entry.form.now path_kinds (numbers_left numbers.entry)) }
 {
     let rows: Vec<(i16, i16, u16)> = numbers.rows()?;
     let heap = *rows.allocator();
-    let paths = rows
-        .iter()
-        .map(|row| RawPath {
+    let mut paths = Vec::new(heap);
+    for row in &rows {
+        paths.push(RawPath {
             re: row.0,
             im: row.1,
             delay: row.2,
-        })
-        .collect(heap)?;
+        })?;
+    }
     Ok(Setting::Paths(paths))
 }
 

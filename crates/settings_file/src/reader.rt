@@ -21,9 +21,12 @@ fn put(setting: Numbered<Setting>, made: &mut Settings) -> Result<(), LineFault>
     })
 }
 
-// What the settings of the file make of fresh ones, in order. The first line that is wrong or refused stops it.
+/// What the settings of the file make of fresh ones, in order. The first line that is wrong or refused
+/// stops it. Memory is taken for the rows of a table or of paths, and to quote a word that is wrong.
 pub fn read(heap: Global, bytes: &[u8]) -> Result<Settings, LineFault>
-    ensures { MatchResult result (Makes (entries_of bytes.now) fresh) (Stops (entries_of bytes.now)) }
+    ensures { MatchResult result
+        (Makes (entries_of bytes.now) fresh)
+        (Stops (entries_of bytes.now)) }
 {
     let mut made = Settings::fresh();
     for entry in Entries::<Setting>::of(heap, bytes) {

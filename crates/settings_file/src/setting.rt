@@ -1,4 +1,4 @@
-// One setting, as a line of the file gives it: the numbers, not yet tested for their range.
+// One setting, as a line of the file gives it.
 ghost use Rattle.std.specs.Prelude.{◌≡◌};
 ghost use Rattle.settings_file.specs.Settings.{answered, changed};
 
@@ -6,6 +6,8 @@ use link::paths::RawPath;
 use link::refusal::SettingRefusal;
 use link::settings::Settings;
 
+/// One setting, as a line of the file gives it: the numbers of a setting call, not yet tested for their
+/// range.
 #[derive(Drop)]
 pub enum Setting {
     Scale(u16),
@@ -18,7 +20,7 @@ pub enum Setting {
         b: i16,
         c: i16,
     },
-    // Two lists, not a list of pairs: the setting call takes them so.
+    /// Two lists, not a list of pairs: the setting call takes them so.
     AmplifierTable {
         amplitudes: Vec<u16>,
         phases: Vec<i16>,
@@ -54,7 +56,7 @@ pub enum Setting {
 }
 
 impl Setting {
-    // Puts the setting into the settings, or answers why it is refused and leaves them as they were.
+    /// Puts the setting into the settings, or answers why it is refused and leaves them as they were.
     pub fn carry_out(&self, settings: &mut Settings) -> Result<(), SettingRefusal>
         ensures answers { result ≡ answered self.now }
         ensures leaves { settings.new ≡ changed self.now settings.old }

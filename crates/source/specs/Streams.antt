@@ -1,5 +1,6 @@
 -- A finite list of items and how it ends.
-use Rattle.std.specs.Prelude.{ℕ, zero, suc, ◌+◌, List, [], ◌∷◌, drop, Some, None, Ok, Err, Option, Result}
+use Rattle.std.specs.Prelude.{◌≡◌, ℕ, zero, suc, ◌+◌, List, [], ◌∷◌, length, drop, refl, Some, None, Ok, Err, Option, Result}
+use Rattle.std.proofs.Common.{ap}
 use Rattle.source.specs.declared.fault.Fault.{Fault}
 
 -- how it ends: finished, or by a fault
@@ -39,3 +40,8 @@ from n s = record { items = drop n s.items; ending = s.ending }
 abbrev pub tabulate : {T : Type 0} → (ℕ → T) → ℕ → ℕ → List T
 tabulate f k zero = []
 tabulate f k (suc n) = f k ∷ tabulate f (k + 1) n
+
+-- n items, whatever they are
+pub length_tabulate : {T : Type 0} (f : ℕ → T) (k n : ℕ) → length (tabulate f k n) ≡ n
+length_tabulate f k zero = refl
+length_tabulate f k (suc n) = ap suc (length_tabulate f (k + 1) n)

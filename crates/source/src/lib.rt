@@ -8,4 +8,5 @@
 pub mod fault;
 pub mod items;
 pub mod listed;
+pub mod place;
 pub mod source;

@@ -1,5 +1,5 @@
 -- The whole of a stage from the wholes below it.
-use Rattle.std.specs.Prelude.{ℕ, cond, List, [], ◌∷◌, ◌++◌, map, length, replicate, Some, None, Option, nat_le, Ok}
+use Rattle.std.specs.Prelude.{◌≡◌, ℕ, cond, List, [], ◌∷◌, ◌++◌, map, length, replicate, Some, None, Option, nat_le, Ok}
 use Rattle.source.specs.Streams.{Ending, Stream}
 
 -- item k is f of item k below
@@ -9,6 +9,10 @@ each f s = record { items = map f s.items; ending = s.ending }
 -- the items are what f makes of the list below
 abbrev pub remade : {A B : Type 0} → (List A → List B) → Stream A → Stream B
 remade f s = record { items = f s.items; ending = s.ending }
+
+-- a list formula gives one item for each item
+abbrev pub SameLength : {A B : Type 0} → (List A → List B) → Type 0
+SameLength f = (xs : List _) → length (f xs) ≡ length xs
 
 -- n times one item, finished
 abbrev pub held : {T : Type 0} → ℕ → T → Stream T

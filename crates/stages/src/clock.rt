@@ -1,5 +1,5 @@
 // A clock offset: the receiver's clock runs a little faster or slower, so its samples stand between those below.
-ghost use Rattle.std.specs.Prelude.{◌≡◌, ◌-◌, ◌^◌, ◌<◌, ◌≤◌, List, ◌∷◌, length, pos, ◌+ℤ◌, nat_le};
+ghost use Rattle.std.specs.Prelude.{◌≡◌, ◌+◌, ◌-◌, ◌^◌, ◌<◌, ◌≤◌, List, ◌∷◌, length, pos, ◌+ℤ◌, nat_le};
 ghost use Rattle.samples.specs.Kinds.{silent};
 ghost use Rattle.samples.specs.declared.kinds.WorkingSample.{WorkingSample as Working};
 ghost use Rattle.source.specs.Streams.{answer, rest};
@@ -20,7 +20,7 @@ const ITEM: u64 = 0x20_0000_0000_0000;
 impl Line {
     // The line before the first item, where every sample is 0. The first output stands at the first item.
     fn start(step: u64) -> Self
-        requires { (0 < step) × (step ≤ 2 ^ 54) }
+        requires { (0 < step) × (step ≤ 2 ^ 53 + 9007199254740) }
         ensures step { result.step ≡ step }
         ensures before { result.before ≡ silent }
         ensures last { result.last ≡ silent }

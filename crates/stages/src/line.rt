@@ -1,4 +1,4 @@
-ghost use Rattle.std.specs.Prelude.{◌*◌, ◌^◌, ◌<◌, ◌≤◌};
+ghost use Rattle.std.specs.Prelude.{◌+◌, ◌^◌, ◌<◌, ◌≤◌};
 
 use samples::kinds::WorkingSample;
 
@@ -12,7 +12,8 @@ pub(crate) struct Line {
     // How far two outputs are apart, in the same units.
     pub(crate) step: u64,
     ghost moves: { 0 < step },
-    ghost step_within: { step ≤ 2 ^ 54 },
+    // A clock is at most a thousandth slower than the signal's.
+    ghost step_within: { step ≤ 2 ^ 53 + 9007199254740 },
     // The next output needs at most two items more.
-    ghost near: { position < 3 * 2 ^ 53 },
+    ghost near: { position < 2 ^ 53 + step },
 }

@@ -1,8 +1,8 @@
 // A stage with a memory: one item out for one item in, made of it and of what went before. Apart from Each, since a memory
 // changes at each item.
-ghost use Rattle.std.specs.Prelude.{◌≡◌, List, [], ◌∷◌};
+ghost use Rattle.std.specs.Prelude.{◌≡◌, List, ◌∷◌, length};
 ghost use Rattle.stages.specs.Meanings.{scan_whole, scan_left};
-ghost use Rattle.stages.specs.Wholes.{remade};
+ghost use Rattle.stages.specs.Wholes.{remade, SameLength};
 
 use source::fault::Fault;
 use source::source::Source;
@@ -25,7 +25,8 @@ pub trait Memory {
         ensures starts { makes self.new ≡ fresh self.old }
         ensures same { fresh self.new ≡ fresh self.old };
 
-    ghost nothing: { (s : Self) → makes s [] ≡ [] };
+    // one item out for each item in
+    ghost same_length: { (s : Self) (xs : List Self.From) → length (makes s xs) ≡ length xs };
 }
 
 // The items below, each through a formula that remembers those before it.
@@ -44,6 +45,7 @@ impl<S: Source, M: Memory<From = S::Item>> Scan<S, M> {
         ensures left { S.Source.left result.below ≡ S.Source.whole below }
         ensures makes { ⟦<Self as Source>⟧.whole result ≡ remade (M.Memory.fresh memory) (S.Source.whole below) }
         ensures remains { ⟦<Self as Source>⟧.left result ≡ remade (M.Memory.fresh memory) (S.Source.whole below) }
+        ensures as_many { SameLength (M.Memory.fresh memory) }
     {
         below.rewind();
         memory.reset();

@@ -4,11 +4,11 @@
 // it in those words alone.
 #![tactic(auto)]
 
-ghost use Rattle.std.specs.Prelude.{◌≡◌, map, IfOk};
+ghost use Rattle.std.specs.Prelude.{◌≡◌, ◌≢◌, [], IfOk, OnErr};
 ghost use Rattle.chain.specs.Chains.{played};
-ghost use Rattle.player.specs.Calls.{asked, told};
-ghost use Rattle.player.specs.Runs.{LawOfRuns};
+ghost use Rattle.player.specs.Runs.{EveryRunLawful};
 ghost use Rattle.player.specs.Standing.{Stands};
+ghost use Rattle.standard.specs.Runs.{StandardRun};
 
 use chain::standard::{StandardChain, standard_chain};
 use link::settings::Settings;
@@ -20,19 +20,23 @@ use samples::gain_index::GainIndex;
 use source::source::Source;
 use std::alloc::{AllocError, Global};
 
-// A player at the start of the standard chain.
+/// A player at the start of the standard chain. Whatever calls are then made of it, in any order and with any arguments: what
+/// comes out at place k is item k of the whole that the formulas make of the settings, the signal and its gain indices, and
+/// that whole's end or fault is told exactly where items are wanted and none is left.
 pub fn standard_player<S: Source<Item = ConverterSample>, G: Source<Item = GainIndex>>(
     settings: &Settings,
     signal: S,
     indices: G,
 ) -> Player<StandardChain<S, G>>
-    ensures { Stands result (played settings.now (S.Source.whole signal) (G.Source.whole indices)) 0 }
+    ensures stands { Stands result (played settings.now (S.whole signal) (G.whole indices)) 0 }
+    ensures runs { EveryRunLawful result (played settings.now (S.whole signal) (G.whole indices)) }
 {
     let start = standard_chain(settings, signal, indices);
     Player::new(start)
 }
 
-// Carries out the calls on a player of the standard chain, and hands back each answer with each buffer.
+/// Carries out the calls on a player of the standard chain, and hands back each answer with each buffer. Want of memory is
+/// told only where there are calls.
 pub fn standard_run<S: Source<Item = ConverterSample> + Drop, G: Source<Item = GainIndex> + Drop>(
     heap: Global,
     settings: &Settings,
@@ -40,7 +44,8 @@ pub fn standard_run<S: Source<Item = ConverterSample> + Drop, G: Source<Item = G
     indices: G,
     calls: Vec<Call<ConverterSample>>,
 ) -> Result<Vec<Answer<ConverterSample>>, AllocError>
-    ensures { IfOk result (λ answers. LawOfRuns (played settings.now (S.Source.whole signal) (G.Source.whole indices)) (map asked calls.items) (map told answers.items)) }
+    ensures law { IfOk result (StandardRun settings.now (S.whole signal) (G.whole indices) calls) }
+    ensures memory { OnErr result (calls.items ≢ []) }
 {
     let chain = standard_chain(settings, signal, indices);
     run(heap, chain, calls)

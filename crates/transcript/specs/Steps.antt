@@ -1,7 +1,8 @@
 -- What a line of a file of calls stands for.
-use Rattle.std.specs.Prelude.{◌≡◌, ℕ, List, [], ◌∷◌, replicate, pos, codes, MatchBool}
+use Rattle.std.specs.Prelude.{◌≡◌, ℕ, ◌<◌, List, [], ◌∷◌, map, replicate, pos, codes, MatchBool}
 use Rattle.std.specs.Str.{bytes_eq}
 use Rattle.lines.specs.declared.fault.Wrong.{Wrong}
+use Rattle.lines.specs.declared.numbered.Numbered.{Numbered}
 use Rattle.lines.specs.Faults.{Exceeds, NoRow, OneSays, Unknown, kind_of}
 use Rattle.lines.specs.Numbers.{unsigned, u32_range}
 use Rattle.samples.specs.Kinds.{converter}
@@ -17,9 +18,13 @@ call_of (Fill n) = fill (replicate n (converter (pos 0) (pos 0)))
 call_of (Skip n) = skip n
 call_of Rewind = rewind
 
--- only a fill takes memory, for its buffer
+-- the calls that steps ask for, in order
+abbrev pub asked_by : List (Numbered Step) → List (Asked ConverterSample)
+asked_by steps = map (λ step. call_of step.held) steps
+
+-- only a fill takes memory, for its buffer, and none where it wants no items
 abbrev pub TakesMemory : Step → Type 0
-TakesMemory (Fill n) = Unit {0}
+TakesMemory (Fill n) = 0 < n
 TakesMemory _ = ⊥
 
 -- the words of a line say a step

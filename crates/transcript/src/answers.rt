@@ -10,8 +10,8 @@ use player::calls::Answer;
 use samples::converter::ConverterSample;
 use std::fmt;
 
-// A step and its answer, told in one line: `next: item -95 53`, `next: no item`, `fill 3: 3; 1 2; 3 4; 5 6`,
-// `skip 9: fault 12 input 0 item 250 place 251` or `rewind: done`.
+/// A step and its answer, told in one line: `next: item -95 53`, `next: no item`,
+/// `fill 3: 3; 1 2; 3 4; 5 6`, `skip 9: fault 12 input 0 item 250 place 251` or `rewind: done`.
 #[derive(Clone, Copy)]
 pub struct AnswerLine<'a> {
     pub step: Step,
@@ -69,7 +69,7 @@ impl<'a> fmt::Display for AnswerLine<'a> {
     }
 }
 
-// All steps with their answers, each in a line of its own.
+/// Steps with their answers, each in a line of its own, as many as both lists have.
 #[derive(Clone, Copy)]
 pub struct AnswerLines<'a> {
     // Two lists: a run takes all calls, then gives all answers.

@@ -1,6 +1,7 @@
 // Runs of a player in text: files of calls, and the line that tells each answer.
 //
-// Proved: which call of a player a line of the file stands for, and the words that tell a step and its answer.
+// Proved: which call of a player a line of the file stands for, and the words that tell a step and its
+// answer.
 #![tactic(auto)]
 
 pub mod answers;

@@ -1,8 +1,8 @@
 // Files of calls: `next`, `fill N`, `skip N` or `rewind`, one a line.
-ghost use Rattle.std.specs.Prelude.{◌≡◌, map, IfOk, IfErr, Some};
+ghost use Rattle.std.specs.Prelude.{◌≡◌, ◌<◌, length, map, IfOk, IfErr, Some};
 ghost use Rattle.player.specs.Calls.{asked};
 ghost use Rattle.transcript.specs.Answers.{step_text};
-ghost use Rattle.transcript.specs.Steps.{call_of, TakesMemory, Says, Complains};
+ghost use Rattle.transcript.specs.Steps.{call_of, asked_by, TakesMemory, Says, Complains};
 
 use lines::entries::Form;
 use lines::entry::Entry;
@@ -14,17 +14,20 @@ use samples::sample::Sample;
 use std::alloc::{AllocError, Global};
 use std::fmt;
 
-// A call of a player, with the number of items that it wants.
+/// A call of a player, as a line of a file of calls says it.
 #[derive(Clone, Copy)]
 pub enum Step {
     Next,
+    /// How many items are wanted.
     Fill(u32),
+    /// How many items are passed over.
     Skip(u32),
     Rewind,
 }
 
 impl Step {
-    // The player's call. A fill brings a buffer of zeros; for no other there can be too little memory.
+    /// The player's call. A fill brings a buffer of zeros, for which there can be too little memory
+    /// unless it wants no items; any other call is made whatever memory there is.
     pub fn call(self, heap: Global) -> Result<Call<ConverterSample>, AllocError>
         ensures call { IfOk result (λ call. asked call ≡ call_of self) }
         ensures memory { IfErr result (λ _. TakesMemory self) }
@@ -33,7 +36,8 @@ impl Step {
             Step::Next => Ok(Call::Next),
             Step::Fill(wanted) => {
                 let silence = ConverterSample::new(0, 0);
-                let buffer = vec![in heap; silence; wanted as usize]?;
+                let mut buffer = Vec::new(heap);
+                buffer.resize(wanted as usize, silence)?;
                 Ok(Call::Fill(buffer))
             }
             Step::Skip(wanted) => Ok(Call::Skip(wanted)),
@@ -42,12 +46,14 @@ impl Step {
     }
 }
 
-// The calls that the steps stand for, in order.
+/// The calls that the steps stand for, in order. Memory is taken to keep them: no steps make no calls,
+/// whatever memory there is.
 pub fn calls_of(
     heap: Global,
     steps: &[Numbered<Step>],
 ) -> Result<Vec<Call<ConverterSample>>, AllocError>
-    ensures { IfOk result (λ calls. map asked calls.items ≡ map (λ step. call_of step.held) steps.now) }
+    ensures calls { IfOk result (λ calls. map asked calls.items ≡ asked_by steps.now) }
+    ensures memory { IfErr result (λ _. 0 < length steps.now) }
 {
     let mut calls = Vec::new(heap);
     for step in steps {
@@ -72,7 +78,7 @@ impl Form for Step {
     }
 }
 
-// As the line that it was read from.
+/// As the line that it was read from.
 impl fmt::Display for Step {
     ghost output = { λ step. Some (step_text step) };
 

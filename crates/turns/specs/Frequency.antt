@@ -1,5 +1,6 @@
 -- The frequency offset: sample k is turned by k times the offset, backwards.
-use Rattle.std.specs.Prelude.{ℕ, ◌+◌, ◌^◌, List, [], ◌∷◌, ℤ, pos, ◌+ℤ◌, ◌*ℤ◌, neg_ℤ}
+use Rattle.std.specs.Prelude.{◌≡◌, ℕ, suc, ◌+◌, ◌^◌, List, [], ◌∷◌, length, refl, ℤ, pos, ◌+ℤ◌, ◌*ℤ◌, neg_ℤ}
+use Rattle.std.proofs.Common.{ap}
 use Rattle.samples.specs.Phases.{modulo, index_48}
 use Rattle.samples.specs.Phasors.{phasor_of}
 use Rattle.samples.specs.declared.kinds.WorkingSample.{WorkingSample}
@@ -9,6 +10,11 @@ use Rattle.turns.specs.Turns.{turned, divided}
 abbrev pub indexed : {A B : Type 0} → (ℕ → A → B) → ℕ → List A → List B
 indexed f n [] = []
 indexed f n (x ∷ xs) = f n x ∷ indexed f (n + 1) xs
+
+-- one item out for each item in
+pub length_indexed : {A B : Type 0} (f : ℕ → A → B) (n : ℕ) (xs : List A) → length (indexed f n xs) ≡ length xs
+length_indexed f n [] = refl
+length_indexed f n (x ∷ xs) = ap suc (length_indexed f (n + 1) xs)
 
 -- the phase of item k, 2 ^ 48 a turn, where that of item 0 is p: (p - k × f) mod 2 ^ 48
 abbrev pub phase_at : ℕ → ℤ → ℕ → ℕ

@@ -1,20 +1,20 @@
 // The frequency offset between transmitter and receiver: sample k is turned back by k times the offset.
 ghost use Rattle.std.specs.Prelude.{◌≡◌, ◌^◌, ◌<◌, pos, ◌-ℤ◌};
 ghost use Rattle.samples.specs.Phases.{modulo};
-ghost use Rattle.turns.specs.Frequency.{frequency_offset, turned_to};
-ghost use Rattle.std.proofs.Common.{rules, arith};
+ghost use Rattle.turns.specs.Frequency.{frequency_offset, length_indexed, phase_at, turned_to};
 
+use crate::frequency_offset::FrequencyOffset;
 use samples::complex::product;
 use samples::kinds::WorkingSample;
 use samples::phasor::{index_48, phasor};
 use samples::sample::Sample;
 use stages::scan::Memory;
 
-// The phase of the next sample, which falls by `f` from sample to sample; both 2^48 a turn.
-// Not the setting of this name: it turns by any f.
+/// The frequency offset as a stage: a phase that falls by the offset from sample to sample.
 #[derive(Clone, Copy, PartialEq, Eq, Debug)]
-pub struct FrequencyOffset {
-    f: i64,
+pub struct Rotator {
+    offset: FrequencyOffset,
+    // The phase of the next sample, 2^48 a turn.
     phase: u64,
     ghost phase_within: { phase < 2 ^ 48 },
 }
@@ -36,31 +36,31 @@ fn turn_to(phase: u64, x: WorkingSample) -> WorkingSample
     WorkingSample::divided(re, im, 14)
 }
 
-impl FrequencyOffset {
-    // An offset of f, 2^48 for a turn a sample, from phase 0.
-    pub fn new(f: i64) -> Self
-        ensures offset { result.f ≡ f }
+impl Rotator {
+    /// Turns sample k back by k times the offset, from phase 0.
+    pub fn new(offset: FrequencyOffset) -> Self
+        ensures offset { result.offset ≡ offset }
         ensures start { result.phase ≡ 0 }
     {
-        FrequencyOffset { f, phase: 0 }
+        Rotator { offset, phase: 0 }
     }
 }
 
-impl Memory for FrequencyOffset {
+impl Memory for Rotator {
     type From = WorkingSample;
 
     type To = WorkingSample;
 
-    ghost makes = { λ s. frequency_offset s.phase s.f };
+    ghost makes = { λ s. frequency_offset s.phase s.offset.f };
 
-    ghost fresh = { λ s. frequency_offset 0 s.f };
+    ghost fresh = { λ s. frequency_offset 0 s.offset.f };
 
-    ghost nothing = { first_of (Prim.search rules, Prim.grind (arith, Self.row.coded.inj)) };
+    ghost same_length = { λ s xs. length_indexed (λ k. turned_to (phase_at s.phase s.offset.f k)) 0 xs };
 
     #[inline(always)]
     fn step(&mut self, x: WorkingSample) -> WorkingSample {
         let turned = turn_to(self.phase, x);
-        self.phase = next_phase(self.phase, self.f);
+        self.phase = next_phase(self.phase, self.offset.f);
         turned
     }
 

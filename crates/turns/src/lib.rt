@@ -7,5 +7,6 @@
 pub mod amplifier;
 pub mod entry;
 pub mod frequency;
+pub mod frequency_offset;
 mod root;
 pub mod table;

@@ -16,20 +16,24 @@ enum ChunkKind {
     Other,
 }
 
-// The data of a recording, and its rate.
+/// The data of a recording, and its rate.
 #[derive(Clone, Copy)]
 pub struct Found {
+    /// Items a second, 1 to 100,000,000.
     pub rate: u32,
-    // Where the data's first byte stands, and how many bytes it has.
+    /// Where the data's first byte stands, from 0.
     pub start: usize,
+    /// How many bytes it has: a multiple of the bytes of an item.
     pub size: usize,
 }
 
-// What one chunk leads to: the next chunk with the rate that is known by then, or the data. Public, since proofs that
-// written bytes open go by it. Not ControlFlow, which names no chunk and no data.
+/// What one chunk leads to: the next chunk with the rate that is known by then, or the data. Public, since proofs that
+/// written bytes open go by it. Not `ControlFlow`, which names no chunk and no data.
 #[derive(Clone, Copy)]
 pub enum Step {
+    /// The place where the next chunk begins, and the rate, if a format chunk came.
     Onward(usize, Option<u32>),
+    /// The data, behind a format.
     Data(Found),
 }
 
@@ -110,7 +114,8 @@ impl<'a> Chunk<'a> {
 
     // Where it ends: behind the content, and the pad byte that follows an odd size. All of it lies within the bytes.
     fn end(&self) -> Result<usize, OpeningRefusal>
-        ensures { result ≡ tested (complete self.now.bytes.now self.now.at ∷ []) (Ok (chunk_end self.now.bytes.now self.now.at)) }
+        ensures { result ≡ tested (complete self.now.bytes.now self.now.at ∷ [])
+            (Ok (chunk_end self.now.bytes.now self.now.at)) }
     {
         let size = self.size() as usize;
         let end = self.at + 8 + size + size % 2;
@@ -121,7 +126,8 @@ impl<'a> Chunk<'a> {
     // One test of the field at this offset.
     fn require(&self, passes: bool, field: Field, offset: usize) -> Result<(), OpeningRefusal>
         requires { offset < 2 ^ 8 }
-        ensures { result ≡ (if passes then Ok tt else Err (WrongField field (self.now.at + offset))) }
+        ensures { result
+            ≡ (if passes then Ok tt else Err (WrongField field (self.now.at + offset))) }
     {
         require(passes, OpeningRefusal::WrongField(field, self.at + offset))
     }
@@ -129,7 +135,8 @@ impl<'a> Chunk<'a> {
     // The fields of a format chunk: answers the rate.
     fn format_fields(&self, format: Format) -> Result<u32, OpeningRefusal>
         requires { self.now.at + 24 ≤ length self.now.bytes.now }
-        ensures { result ≡ tested (field_tests format self.now.bytes.now self.now.at) (Ok (u32_at self.now.bytes.now (self.now.at + 12))) }
+        ensures { result ≡ tested (field_tests format self.now.bytes.now self.now.at)
+            (Ok (u32_at self.now.bytes.now (self.now.at + 12))) }
     {
         let tag = u16_at(self.bytes, self.at + 8);
         self.require(tag == 1, Field::Tag, 8)?;
@@ -162,7 +169,8 @@ impl<'a> Chunk<'a> {
 
     // The data chunk behind a format.
     fn data(&self, format: Format, rate: u32) -> Result<Step, OpeningRefusal>
-        ensures { result ≡ chunk_of ChunkKind.Data format self.now.bytes.now self.now.at (Some rate) }
+        ensures { result
+            ≡ chunk_of ChunkKind.Data format self.now.bytes.now self.now.at (Some rate) }
     {
         let size = self.size();
         self.require(size % u32::from(format.align) == 0, Field::DataSize, 4)?;
@@ -215,7 +223,8 @@ fn walk(bytes: &[u8], format: Format) -> Result<Found, OpeningRefusal>
     }
 }
 
-// Where the data of a recording of this format stands in the bytes, and the rate.
+/// Where the data of a recording of this format stands in the bytes, and the rate. Refused, 8 to 11, by the first test that
+/// fails, in byte order.
 pub fn find_data(bytes: &[u8], format: Format) -> Result<Found, OpeningRefusal>
     ensures answer { result ≡ find_data format bytes.now }
     ensures found { IfOk result (Reached format bytes.now) }

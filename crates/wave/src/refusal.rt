@@ -1,28 +1,49 @@
 // Why bytes are not opened.
-ghost use Rattle.std.specs.Prelude.{◌≡◌};
-ghost use Rattle.wave.specs.Refusals.{head_place, opening_number, opening_place};
+ghost use Rattle.std.specs.Prelude.{◌≡◌, Some};
+ghost use Rattle.wave.specs.Refusals.{head_place, opening_number, opening_place, head_text, field_text, opening_text};
+ghost use Rattle.std.proofs.Common.{rules};
 
+use samples::exact::Exact;
 use std::fmt;
 
-// A field whose value is fixed by the kind of recording.
+/// A field whose value is fixed by the kind of recording; in words, what it must be.
 #[derive(Clone, Copy, PartialEq, Eq, Debug)]
 pub enum Field {
+    /// The size of the format chunk: 16.
     FormatSize,
+    /// 1, PCM.
     Tag,
+    /// Channels: 2 of a signal, 1 of a gain recording.
     Channels,
+    /// Items a second: 1 to 100,000,000.
     Rate,
+    /// Bytes a second: the rate times the bytes of an item.
     ByteRate,
+    /// Bytes of an item: 4 in a signal, 1 in a gain recording.
     Align,
+    /// Bits of a channel's number: 12 in a signal, 8 in a gain recording.
     Bits,
+    /// The size of the data chunk in bytes: a multiple of the bytes of an item.
     DataSize,
 }
 
-// What the head holds.
+impl Exact for Field {
+    ghost exact = { Prim.search rules };
+}
+
+/// A part of the head, the first 12 bytes; in words, what is wrong with it.
 #[derive(Clone, Copy, PartialEq, Eq, Debug)]
 pub enum HeadField {
+    /// The mark "RIFF", at byte 0.
     Riff,
+    /// The number of bytes less 8, at byte 4.
     Length,
+    /// The mark "WAVE", at byte 8.
     Wave,
+}
+
+impl Exact for HeadField {
+    ghost exact = { Prim.search rules };
 }
 
 impl HeadField {
@@ -38,21 +59,26 @@ impl HeadField {
     }
 }
 
-// Why bytes are no recording. Behind the head each holds the place of the byte where the refused chunk or field begins.
+/// Why bytes are no recording. Behind the head each holds the place of the byte where the refused chunk or field begins,
+/// from 0.
 #[derive(Clone, Copy, PartialEq, Eq, Debug)]
 pub enum OpeningRefusal {
-    // Fewer bytes than the head, a chunk's head or a chunk needs.
+    /// 8: fewer bytes than the head, a chunk's head or a chunk needs.
     TooShort(usize),
-    // A wrong mark or length in the head.
+    /// 9: a wrong mark or length in the head.
     WrongHead(HeadField),
-    // A field of the format, or the data's size, is not as the kind of recording has it.
+    /// 10: a field of the format, or the data's size, is not as the kind of recording has it.
     WrongField(Field, usize),
-    // The data stands before the format.
+    /// 11: the data stands before the format.
     DataBeforeFormat(usize),
 }
 
+impl Exact for OpeningRefusal {
+    ghost exact = { Prim.search rules };
+}
+
 impl OpeningRefusal {
-    // The number by which the refusal is known.
+    /// The number by which the refusal is known, 8 to 11.
     pub fn number(self) -> u8
         ensures { result ≡ opening_number self }
     {
@@ -64,7 +90,7 @@ impl OpeningRefusal {
         }
     }
 
-    // The byte place.
+    /// The byte place: where the refused part of the head, chunk or field begins, from 0.
     pub fn place(self) -> usize
         ensures { result ≡ opening_place self }
     {
@@ -78,6 +104,8 @@ impl OpeningRefusal {
 }
 
 impl fmt::Display for HeadField {
+    ghost output = { λ r. Some (head_text r) };
+
     fn fmt<W: fmt::Write>(&self, f: &mut fmt::Formatter<W>) -> fmt::Result {
         match *self {
             HeadField::Riff => write!(f, "it does not begin with RIFF"),
@@ -88,6 +116,8 @@ impl fmt::Display for HeadField {
 }
 
 impl fmt::Display for Field {
+    ghost output = { λ r. Some (field_text r) };
+
     fn fmt<W: fmt::Write>(&self, f: &mut fmt::Formatter<W>) -> fmt::Result {
         match *self {
             Field::FormatSize => write!(f, "the format chunk's size must be 16"),
@@ -118,6 +148,8 @@ impl fmt::Display for Field {
 }
 
 impl fmt::Display for OpeningRefusal {
+    ghost output = { λ r. Some (opening_text r) };
+
     fn fmt<W: fmt::Write>(&self, f: &mut fmt::Formatter<W>) -> fmt::Result {
         match *self {
             OpeningRefusal::TooShort(_) => write!(f, "the bytes end too early"),

@@ -17,6 +17,6 @@ pub fn worked_examples() -> WorkingSample
     ensures first { result ≡ real 1600 }
     ensures all { Worked }
 {
-    let scaling = Scaling::new(4096);
+    let scaling = Scaling { factor: 4096 };
     scaling.apply(ConverterSample::new(100, 0))
 }

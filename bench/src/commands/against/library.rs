@@ -21,8 +21,8 @@ pub struct Sample {
 
 pub const SIGNAL: u32 = 0;
 pub const GAINS: u32 = 1;
-pub const SETTINGS: u32 = 2;
-pub const CALLS: u32 = 3;
+pub const SETTINGS: u32 = 256;
+pub const CALLS: u32 = 257;
 
 pub const UNKNOWN_KIND: u32 = 64;
 pub const WRONG_LINE: u32 = 65;

@@ -101,6 +101,20 @@ impl Formula for AddingNoise {
     }
 }
 
+/// A fixed gain at the receiver, from air to air samples.
+#[derive(Clone, Copy, Debug)]
+pub struct AirGain(pub Gain);
+
+impl Formula for AirGain {
+    type In = AirSample;
+    type Out = AirSample;
+
+    #[inline]
+    fn apply(&self, x: AirSample) -> AirSample {
+        self.0.apply(x)
+    }
+}
+
 /// A receiver's switched amplifiers: the index that comes with a sample chooses its gain.
 pub struct ReceiveGain {
     pub gains: [Gain; 128],

@@ -14,6 +14,6 @@ pub use clock::ClockOffset;
 pub use each::{Each, Formula};
 pub use frequency::FrequencyOffset;
 pub use lead::Lead;
-pub use levels::{AddingNoise, Converter, DcOffset, Gain, Imbalance, ReceiveGain, Scaling};
+pub use levels::{AddingNoise, AirGain, Converter, DcOffset, Gain, Imbalance, ReceiveGain, Scaling};
 pub use multipath::{Multipath, Path};
 pub use pairing::Pairing;

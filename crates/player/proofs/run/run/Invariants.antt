@@ -1,10 +1,12 @@
-use Rattle.std.proofs.Common.{◌≡◌, map, vec_items, fold}
+use Rattle.std.proofs.Common.{◌≡◌, ◌++◌, map, vec_items}
+use Rattle.std.specs.Vec.Iter.{into_iter_items}
 use Rattle.player.specs.Calls.{asked, told}
-use Rattle.player.specs.Plain.{plain_place, plain_run}
-use Rattle.player.specs.Standing.{Stands}
+use Rattle.player.specs.Runs.{RunFrom}
 use Rattle.player.proofs.run.run.Given as goal
 
+-- what was carried out is a run of the fresh player, and with what is left it is the whole list
 abbrev pub invariant-loop-call : goal.invariant-loop-call
-invariant-loop-call g l =
-    (map told (vec_items l.answers) ≡ plain_run l.initial.player.whole 0 (map asked l.yielded))
-    × Stands l.player l.initial.player.whole (fold (plain_place l.initial.player.whole) 0 (map asked l.yielded))
+invariant-loop-call g l = record {
+  run : RunFrom l.initial.player (map asked l.yielded) (map told (vec_items l.answers)) l.player;
+  calls : l.yielded ++ into_iter_items l.call-iterator ≡ vec_items l.fn.calls;
+}

@@ -1,6 +1,10 @@
 use Rattle.std.proofs.Common.{◌≡◌, ℕ, List, refl, ap, ◌∙◌, ap₂}
+use Rattle.impairments.specs.Levels.{quantized}
+use Rattle.impairments.specs.Multipath.{echoes, used, silence}
+use Rattle.impairments.specs.declared.balance.Balance.{Balance}
 use Rattle.impairments.specs.declared.gain.Gain.{Gain}
-use Rattle.samples.specs.declared.converter.ConverterSample.{ConverterSample}
+use Rattle.impairments.specs.declared.offset.Offset.{Offset}
+use Rattle.impairments.specs.declared.paths.Paths.{Paths}
 use Rattle.samples.specs.declared.gain_index.GainIndex.{GainIndex}
 use Rattle.samples.specs.declared.kinds.AirSample.{AirSample}
 use Rattle.samples.specs.declared.kinds.WorkingSample.{WorkingSample}
@@ -8,7 +12,9 @@ use Rattle.source.specs.Streams.{Stream}
 use Rattle.stages.specs.Clock.{clocked, clock_step}
 use Rattle.stages.specs.Noise.{noise}
 use Rattle.stages.specs.Wholes.{each, remade, paired, led}
-use Rattle.chain.specs.Formulas.{added, channel_gained, all_noise}
+use Rattle.turns.specs.Frequency.{frequency_offset}
+use Rattle.turns.specs.declared.frequency_offset.FrequencyOffset.{FrequencyOffset}
+use Rattle.chain.specs.Formulas.{working_offset, working_balanced, air_offset, air_balanced, amplified_unless, receive_gained, added, channel_gained, all_noise}
 use Rattle.chain.proofs.standard.Link.new.Goals as goal
 
 -- the noise that the chain is made with is all of it
@@ -20,14 +26,18 @@ every_item re im = refl
 pub returns : goal.returns
 returns g c =
     let s = c.args.settings.now in
-    let w = g.S.Source.whole c.args.working in
+    let signal = g.S.Source.whole c.args.signal in
     let indices = g.G.Source.whole c.args.indices in
-    let transmit = c.new-transmitted.ensures.makes ∙ ap (λ (f : WorkingSample → WorkingSample). each f w) c.new-transmitter.ensures in
-    let propagate = c.new-propagated.ensures.makes ∙ ap₂ (λ (f : List WorkingSample → List WorkingSample) (x : Stream WorkingSample). remade f x) c.new-propagation.ensures.fresh transmit in
-    let clock = c.new-clocked.ensures.whole ∙ ap (clocked s.clock_bypass (clock_step s.clock.c)) propagate in
-    let gain = c.new-gained.ensures.makes ∙ ap₂ (λ (h : Gain) (x : Stream WorkingSample). each (channel_gained h) x) c.new-gain.ensures clock in
-    let noise = c.new-noisy.ensures.makes ∙ ap (each added) (c.new-beside_noise.ensures.whole ∙ ap₂ paired gain (c.new-noise.ensures.whole ∙ every_item s.seeds.re s.seeds.im)) in
-    let lead = c.new-led.ensures.whole ∙ ap (λ (i : GainIndex). led s.lead i indices) c.new-first.ensures in
-    let pair = c.new-beside_indices.ensures.whole ∙ ap₂ paired noise lead in
-    let receive = ap₂ (λ (f : AirSample × GainIndex → ConverterSample) (x : Stream (AirSample × GainIndex)). each f x) c.new-receiver.ensures pair in
-    record { whole = c.new-stages.ensures.makes ∙ receive; left = c.new-stages.ensures.remains ∙ receive }
+    let shifted = c.new-shifted.ensures.makes ∙ ap (λ (o : Offset). each (working_offset o) signal) c.new.ensures in
+    let balanced = c.new-balanced.ensures.makes ∙ ap₂ (λ (m : Balance) (x : Stream WorkingSample). each (working_balanced m) x) c.new-2.ensures shifted in
+    let amplified = c.new-amplified.ensures.makes ∙ ap₂ (λ (f : WorkingSample → WorkingSample) (x : Stream WorkingSample). each f x) (ap₂ amplified_unless c.new-amplifier.ensures.bypassed c.new-amplifier.ensures.table) balanced in
+    let echoed = c.new-echoed.ensures.makes ∙ ap₂ (λ (p : Paths) (x : Stream WorkingSample). remade (echoes (used p) silence) x) c.new-3.ensures.paths amplified in
+    let turned = c.new-turned.ensures.makes ∙ ap₂ (λ (o : FrequencyOffset) (x : Stream WorkingSample). remade (frequency_offset 0 o.f) x) c.new-4.ensures.offset echoed in
+    let resampled = c.new-resampled.ensures.whole ∙ ap (clocked s.clock_bypass (clock_step s.clock.c)) turned in
+    let on_air = c.new-on_air.ensures.makes ∙ ap₂ (λ (h : Gain) (x : Stream WorkingSample). each (channel_gained h) x) c.new-5.ensures resampled in
+    let noisy = c.new-noisy.ensures.makes ∙ ap (each added) (c.new-6.ensures.whole ∙ ap₂ paired on_air (c.new-noise.ensures.whole ∙ every_item s.seeds.re s.seeds.im)) in
+    let chosen = c.new-chosen.ensures.whole ∙ ap (λ (i : GainIndex). led s.lead i indices) c.new-7.ensures in
+    let received = c.new-received.ensures.makes ∙ ap₂ (λ (h : List Gain) (x : Stream (AirSample × GainIndex)). each (receive_gained h) x) c.new-gains.ensures (c.new-8.ensures.whole ∙ ap₂ paired noisy chosen) in
+    let rx_shifted = c.new-rx_shifted.ensures.makes ∙ ap₂ (λ (o : Offset) (x : Stream AirSample). each (air_offset o) x) c.new-9.ensures received in
+    let rx_balanced = ap (each quantized) (c.new-rx_balanced.ensures.makes ∙ ap₂ (λ (m : Balance) (x : Stream AirSample). each (air_balanced m) x) c.new-10.ensures rx_shifted) in
+    record { whole = c.new-stages.ensures.makes ∙ rx_balanced; left = c.new-stages.ensures.remains ∙ rx_balanced }

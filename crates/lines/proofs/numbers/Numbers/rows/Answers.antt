@@ -3,7 +3,7 @@ use Rattle.std.specs.List.{flat_map}
 use Rattle.lines.specs.Faults.{Lacks, TakesRow}
 use Rattle.lines.specs.Taking.{numbers_left}
 use Rattle.lines.proofs.Rows.{exit, Begun, begun_more, begun_row, last_lacks}
-use mathlib.Core.Logic.{inl, inr}
+use mathlib.Core.Logic.{inl}
 use Rattle.lines.proofs.numbers.Numbers.rows.Goals as goal
 
 pub loop-first-preserved : goal.loop-first-preserved
@@ -29,7 +29,7 @@ returns-in_err-push g c =
     let kinds = g.R.Row.kind ∷ g.R.Row.kinds_behind in
     let takes = subst (λ words. TakesRow kinds g.R.Row.Says words (numbers_left c.read.new.behind) c.in_ok-read.field-0) (sym c.in-Some.ensures) c.in_ok-read.ensures.read in
     let begins = begun_row kinds g.R.Row.Says (numbers_left c.args.self) c.loop-first.rows.items (numbers_left c.loop-first.self) (numbers_left c.read.new.behind) c.in_ok-read.field-0 c.loop-first.invariant.1 takes in
-    exit _ _ _ _ c.from_residual-in_err-push.ensures.1 (inl (refl, inr begins))
+    exit _ _ _ _ c.from_residual-in_err-push.ensures.1 (inl (refl, begins))
 
 pub returns : goal.returns
 returns g c =

@@ -1,0 +1,46 @@
+// Stages in an order of one's own over a source of one's own, and a player over them.
+ghost use Rattle.std.specs.Prelude.{◌≡◌};
+ghost use Rattle.player.specs.Runs.{EveryRunLawful};
+ghost use Rattle.stacking.specs.Stacks.{heard};
+ghost use Rattle.stacking.specs.Tones.{tone};
+
+use crate::tone::Tone;
+use impairments::dc::DcOffset;
+use impairments::multipath::Multipath;
+use impairments::offset::Offset;
+use impairments::paths::Paths;
+use player::player::Player;
+use samples::kinds::WorkingSample;
+use source::source::Source;
+use stages::clock::Clock;
+use stages::clock_offset::ClockOffset;
+use stages::each::Each;
+use stages::scan::Scan;
+
+/// Clock offset, then multipath, then DC offset, over a tone.
+pub(crate) type Heard = Each<Scan<Clock<Tone>, Multipath>, DcOffset<WorkingSample>>;
+
+// The stages over the tone.
+fn hear(turn: u16, length: u32, clock: ClockOffset, paths: Paths, dc: Offset) -> Heard
+    ensures { ⟦<Heard as Source>⟧.whole result ≡ heard clock paths dc (tone turn length) }
+{
+    let tone = Tone::new(turn, length);
+    let clocked = Clock::new(false, clock, tone);
+    let echoed = Scan::new(Multipath::new(paths), clocked);
+    Each::new(DcOffset::new(dc), echoed)
+}
+
+/// A player at the start of a tone that is heard through the stages. Whatever calls are then made of it: what comes out at place
+/// k is item k of what the stages' formulas make of the tone, and the tone's fault is told exactly where that ends.
+pub(crate) fn tone_player(
+    turn: u16,
+    length: u32,
+    clock: ClockOffset,
+    paths: Paths,
+    dc: Offset,
+) -> Player<Heard>
+    ensures { EveryRunLawful result (heard clock paths dc (tone turn length)) }
+{
+    let heard = hear(turn, length, clock, paths, dc);
+    Player::new(heard)
+}
