@@ -3,8 +3,8 @@ use Rattle.std.proofs.Common.{◌≡◌, ℕ, ◌-◌, ◌<◌, min, Bool, true,
 use lib.ListN.{length-map}
 use Rattle.std.proofs.lemmas.Bool.Decides.{nat_tests}
 use Rattle.std.specs.Result.{result_unwrap_or}
-use Rattle.source.specs.Streams.{Ending, Stream}
-use Rattle.stages.specs.Wholes.{each}
+use Rattle.sources.specs.Streams.{Ending, Stream}
+use Rattle.sources.specs.Wholes.{each}
 use Rattle.player.specs.Calls.{filled}
 use Rattle.player.specs.declared.fault.PlayerFault.{PlayerFault}
 use Rattle.player.specs.Plain.{ending_answer, answer_of, none_came}

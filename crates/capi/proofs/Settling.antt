@@ -2,12 +2,12 @@
 use Rattle.std.proofs.Common.{◌≡◌, ℕ, List, [], ◌∷◌, ◌++◌, Result, Ok, Err, MatchResult, refl, sym, ap, ◌∙◌, subst}
 use Rattle.std.specs.List.{AllZip}
 use Rattle.std.specs.Result.{IsErrAnd}
-use Rattle.lines.specs.Entries.{Holds, entries_of}
-use Rattle.link.specs.Fresh.{fresh}
-use Rattle.link.specs.declared.settings.Settings.{Settings}
-use Rattle.settings_file.specs.Files.{Makes, Stops, changed_by}
-use Rattle.settings_file.specs.Forms.{Says}
-use Rattle.settings_file.specs.declared.fault.LineFault.{LineFault}
+use Rattle.text.specs.Entries.{Holds, entries_of}
+use Rattle.settings.specs.Fresh.{fresh}
+use Rattle.settings.specs.declared.settings.Settings.{Settings}
+use Rattle.text.specs.Files.{Makes, Stops, changed_by}
+use Rattle.text.specs.Forms.{Says}
+use Rattle.text.specs.declared.settings_file.fault.LineFault.{LineFault}
 use Rattle.capi.specs.declared.refusal.Input.TheVariants as inputs
 use Rattle.capi.specs.declared.refusal.Refusal.{Refusal}
 use Rattle.capi.specs.Texts.{MakesSettings, Settles, stopped_at}

@@ -1,12 +1,12 @@
 -- Want of memory is told only where a text has an entry.
 use Rattle.std.proofs.Common.{◌≡◌, ◌≢◌, ℕ, List, [], Result, Ok, Err, refl, sym, ◌∙◌, subst}
 use Rattle.std.specs.List.{AllZip}
-use Rattle.lines.specs.Entries.{Holds, entries_of}
-use Rattle.lines.specs.declared.numbered.Numbered.{Numbered}
-use Rattle.link.specs.declared.settings.Settings.{Settings}
+use Rattle.text.specs.Entries.{Holds, entries_of}
+use Rattle.text.specs.declared.numbered.Numbered.{Numbered}
+use Rattle.settings.specs.declared.settings.Settings.{Settings}
 use Rattle.recordings.specs.Pair.{link_opening}
-use Rattle.transcript.specs.Steps.{Says}
-use Rattle.transcript.specs.declared.step.Step.{Step}
+use Rattle.text.specs.Steps.{Says}
+use Rattle.text.specs.declared.transcript.step.Step.{Step}
 use Rattle.capi.specs.declared.refusal.Refusal.{Refusal}
 use Rattle.capi.specs.declared.refusal.Refusal.TheVariants.{Memory}
 use Rattle.capi.specs.declared.written.Transcript.{Transcript}

@@ -1,7 +1,7 @@
 -- What is heard of a source: how many of its items come to a call that wants n, and its ending, if that is met.
 use Rattle.std.specs.Prelude.{ℕ, ◌-◌, ◌^◌, cond, List, Ok, Err, Result, ◌==◌}
-use Rattle.source.specs.Streams.{Stream}
-use Rattle.wave.specs.declared.refusal.OpeningRefusal.{OpeningRefusal}
+use Rattle.sources.specs.Streams.{Stream}
+use Rattle.recordings.specs.declared.refusal.OpeningRefusal.{OpeningRefusal}
 use Rattle.recordings.specs.Opening.{Opened, signal_opening, gain_opening}
 use Rattle.recordings.specs.Pair.{input_number}
 use Rattle.recordings.specs.declared.pair.Input.{Input}

@@ -2,12 +2,12 @@
 use Rattle.std.specs.Prelude.{◌≡◌, ℕ, List, length, Ok, Err, Result}
 use Rattle.samples.specs.declared.converter.ConverterSample.{ConverterSample}
 use Rattle.samples.specs.declared.gain_index.GainIndex.{GainIndex}
-use Rattle.source.specs.Streams.{Stream}
-use Rattle.stages.specs.Wholes.{each}
-use Rattle.link.specs.declared.settings.Settings.{Settings}
+use Rattle.sources.specs.Streams.{Stream}
+use Rattle.sources.specs.Wholes.{each}
+use Rattle.settings.specs.declared.settings.Settings.{Settings}
 use Rattle.chain.specs.Chains.{played}
 use Rattle.player.specs.Plain.{plain_buffer}
-use Rattle.wave.specs.declared.refusal.OpeningRefusal.{OpeningRefusal}
+use Rattle.recordings.specs.declared.refusal.OpeningRefusal.{OpeningRefusal}
 use Rattle.recordings.specs.Opening.{Opened}
 use Rattle.recordings.specs.Pair.{link_opening}
 use Rattle.recordings.specs.declared.pair.Input as pair

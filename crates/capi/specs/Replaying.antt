@@ -1,16 +1,16 @@
 -- A text of answers, put into the caller's buffer.
 use Rattle.std.specs.Prelude.{◌≡◌, ◌≢◌, ℕ, cond, List, [], length, None, Ok, Err, string_bytes, Result, nat_le}
 use Rattle.samples.specs.declared.converter.ConverterSample.{ConverterSample}
-use Rattle.source.specs.Streams.{Stream}
-use Rattle.link.specs.declared.settings.Settings.{Settings}
+use Rattle.sources.specs.Streams.{Stream}
+use Rattle.settings.specs.declared.settings.Settings.{Settings}
 use Rattle.chain.specs.Chains.{played}
 use Rattle.player.specs.Plain.{plain_run}
-use Rattle.lines.specs.Entries.{entries_of}
-use Rattle.lines.specs.declared.numbered.Numbered.{Numbered}
-use Rattle.transcript.specs.Answers.{answer_lines}
-use Rattle.transcript.specs.Steps.{asked_by}
-use Rattle.transcript.specs.declared.step.Step.{Step}
-use Rattle.wave.specs.Bytes.{overwrite}
+use Rattle.text.specs.Entries.{entries_of}
+use Rattle.text.specs.declared.numbered.Numbered.{Numbered}
+use Rattle.text.specs.Answers.{answer_lines}
+use Rattle.text.specs.Steps.{asked_by}
+use Rattle.text.specs.declared.transcript.step.Step.{Step}
+use Rattle.recordings.specs.Bytes.{overwrite}
 use Rattle.recordings.specs.Pair.{link_opening}
 use Rattle.capi.specs.declared.refusal.Refusal.{Refusal}
 use Rattle.capi.specs.declared.refusal.Refusal.TheVariants.{Memory, Room}

@@ -1,9 +1,9 @@
 -- Statuses and reports: which number each refusal has, and what the report tells.
 use Rattle.std.specs.Prelude.{ℕ, Some, None, Ok, Err, Option, Result}
-use Rattle.source.specs.Faults.{fault_number}
-use Rattle.link.specs.Refusals.{setting_number}
-use Rattle.wave.specs.Refusals.{opening_number, opening_place}
-use Rattle.wave.specs.declared.refusal.OpeningRefusal.{OpeningRefusal}
+use Rattle.sources.specs.Faults.{fault_number}
+use Rattle.settings.specs.Refusals.{setting_number}
+use Rattle.recordings.specs.Refusals.{opening_number, opening_place}
+use Rattle.recordings.specs.declared.refusal.OpeningRefusal.{OpeningRefusal}
 use Rattle.recordings.specs.Pair as recordings
 use Rattle.recordings.specs.declared.pair.Input as pair
 use Rattle.capi.specs.declared.refusal.Input.{Input}
@@ -12,7 +12,7 @@ use Rattle.capi.specs.declared.refusal.Refusal.{Refusal}
 use Rattle.capi.specs.declared.refusal.Refusal.TheVariants.{Opening, Setting, UnknownKind, WrongLine, Memory, Room}
 use Rattle.capi.specs.declared.report.Heard.{Heard}
 use Rattle.capi.specs.declared.report.Report.{Report}
-use Rattle.source.specs.Streams.{Ending}
+use Rattle.sources.specs.Streams.{Ending}
 
 -- the number by which a report names an input: recordings as their faults name them, up to 255; texts from 256 on
 abbrev pub input_number : Input → ℕ

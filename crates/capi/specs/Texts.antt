@@ -1,18 +1,18 @@
 -- What a text makes, or which of its lines stops it.
 use Rattle.std.specs.Prelude.{◌≡◌, ℕ, List, [], Ok, Err, Result}
 use Rattle.std.specs.List.{AllZip}
-use Rattle.lines.specs.Entries.{FirstWrong, Holds, entries_of}
-use Rattle.lines.specs.declared.fault.Wrong as faults
-use Rattle.lines.specs.declared.fault.Wrong.TheVariants as wrongs
-use Rattle.lines.specs.declared.numbered.Numbered.{Numbered}
-use Rattle.link.specs.Fresh.{fresh}
-use Rattle.link.specs.declared.settings.Settings.{Settings}
-use Rattle.settings_file.specs.Files.{Makes, Stops}
-use Rattle.settings_file.specs.declared.fault.LineFault.{LineFault}
-use Rattle.settings_file.specs.declared.fault.Stop.{Stop}
-use Rattle.settings_file.specs.declared.fault.Stop.TheVariants.{Wrong, Refused}
-use Rattle.transcript.specs.Steps.{Says, Complains}
-use Rattle.transcript.specs.declared.step.Step.{Step}
+use Rattle.text.specs.Entries.{FirstWrong, Holds, entries_of}
+use Rattle.text.specs.declared.fault.Wrong as faults
+use Rattle.text.specs.declared.fault.Wrong.TheVariants as wrongs
+use Rattle.text.specs.declared.numbered.Numbered.{Numbered}
+use Rattle.settings.specs.Fresh.{fresh}
+use Rattle.settings.specs.declared.settings.Settings.{Settings}
+use Rattle.text.specs.Files.{Makes, Stops}
+use Rattle.text.specs.declared.settings_file.fault.LineFault.{LineFault}
+use Rattle.text.specs.declared.settings_file.fault.Stop.{Stop}
+use Rattle.text.specs.declared.settings_file.fault.Stop.TheVariants.{Wrong, Refused}
+use Rattle.text.specs.Steps.{Says, Complains}
+use Rattle.text.specs.declared.transcript.step.Step.{Step}
 use Rattle.capi.specs.declared.refusal.Input.{Input}
 use Rattle.capi.specs.declared.refusal.Input.TheVariants as inputs
 use Rattle.capi.specs.declared.refusal.Refusal.{Refusal}

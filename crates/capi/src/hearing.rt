@@ -7,9 +7,9 @@ use crate::iq::Iq;
 use crate::report::Heard;
 use player::player::Player;
 use samples::converter::ConverterSample;
-use source::fault::Ending;
-use source::source::Source;
-use stages::each::{Each, Mapping};
+use sources::each::{Each, Mapping};
+use sources::fault::Ending;
+use sources::source::Source;
 
 // The ending, if fewer items came than were wanted.
 fn ending_met<S: Source>(player: &mut Player<S>, came: u64, wanted: u64) -> Option<Ending>

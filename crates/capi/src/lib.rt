@@ -13,5 +13,5 @@ pub mod playing;
 pub mod refusal;
 pub mod replaying;
 pub mod report;
-mod settings;
+mod texts;
 mod written;

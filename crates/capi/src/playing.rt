@@ -9,13 +9,13 @@ use crate::hearing::listen;
 use crate::iq::Iq;
 use crate::refusal::{Refusal, conclude};
 use crate::report::{Heard, Report};
-use crate::settings::settings_of;
+use crate::texts::settings_of;
 use chain::standard::standard_chain;
-use link::settings::Settings;
 use recordings::pair::LinkRecordings;
 use samples::converter::ConverterSample;
 use samples::gain_index::GainIndex;
-use source::source::Source;
+use settings::settings::Settings;
+use sources::source::Source;
 use std::alloc::Global;
 
 // Plays the chain into the buffer.

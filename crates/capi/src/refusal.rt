@@ -4,10 +4,10 @@ ghost use Rattle.capi.specs.declared.refusal.Refusal.TheVariants.{Memory};
 ghost use Rattle.capi.specs.Reports.{input_number, opening_of, refusal_number, refusal_report, status, told};
 
 use crate::report::Report;
-use link::refusal::SettingRefusal;
 use recordings::pair;
+use recordings::refusal::OpeningRefusal;
+use settings::refusal::SettingRefusal;
 use std::alloc::AllocError;
-use wave::refusal::OpeningRefusal;
 
 /// What is handed in: a recording of the link, or a text.
 #[derive(Clone, Copy)]

@@ -7,20 +7,20 @@ ghost use Rattle.capi.specs.Texts.{SaysSteps};
 
 use crate::refusal::{Input, Refusal, conclude};
 use crate::report::{Heard, Report};
-use crate::settings::{refusal_of, settings_of};
+use crate::texts::{refusal_of, settings_of};
 use crate::written::Transcript;
-use lines::entries::read_all;
-use lines::numbered::Numbered;
-use link::settings::Settings;
+use chain::playing::standard_run;
 use recordings::pair::LinkRecordings;
 use samples::converter::ConverterSample;
 use samples::gain_index::GainIndex;
-use settings_file::fault::LineFault;
-use source::source::Source;
-use standard::standard_run;
+use settings::settings::Settings;
+use sources::source::Source;
 use std::alloc::{AllocError, Global};
-use transcript::answers::AnswerLines;
-use transcript::step::{Step, calls_of};
+use text::entries::read_all;
+use text::numbered::Numbered;
+use text::settings_file::fault::LineFault;
+use text::transcript::answers::AnswerLines;
+use text::transcript::step::{Step, calls_of};
 
 // Makes the calls on one player over the chain: a line for each answer. Where there are no calls, no memory is taken.
 fn replay_chain<S: Source<Item = ConverterSample> + Drop, G: Source<Item = GainIndex> + Drop>(

@@ -2,7 +2,7 @@
 ghost use Rattle.std.specs.Prelude.{◌≡◌};
 ghost use Rattle.capi.specs.Reports.{heard_report, refused_report};
 
-use source::fault::Ending;
+use sources::fault::Ending;
 
 /// What a call tells beside its status, with the fields of `struct tigwedan_report` in their order. Fields that a call has
 /// nothing to tell of are 0. Numbers throughout: C has no enums of ours.

@@ -4,13 +4,13 @@ use Rattle.samples.specs.Kinds.{gain_index}
 use Rattle.samples.specs.declared.converter.ConverterSample.{ConverterSample}
 use Rattle.samples.specs.declared.gain_index.GainIndex.{GainIndex}
 use Rattle.samples.specs.declared.kinds.WorkingSample.{WorkingSample}
-use Rattle.source.specs.Streams.{Stream}
+use Rattle.sources.specs.Streams.{Stream}
 use Rattle.stages.specs.Clock.{clocked, clock_step}
-use Rattle.stages.specs.Wholes.{each, remade, paired, led}
-use Rattle.impairments.specs.Levels.{scaled, quantized}
-use Rattle.impairments.specs.Multipath.{echoes, used, silence}
-use Rattle.link.specs.declared.settings.Settings.{Settings}
-use Rattle.turns.specs.Frequency.{frequency_offset}
+use Rattle.sources.specs.Wholes.{each, remade, paired, led}
+use Rattle.stages.specs.Levels.{scaled, quantized}
+use Rattle.stages.specs.Multipath.{echoes, used, silence}
+use Rattle.settings.specs.declared.settings.Settings.{Settings}
+use Rattle.stages.specs.Frequency.{frequency_offset}
 use Rattle.chain.specs.Formulas.{working_offset, working_balanced, air_offset, air_balanced, amplified_unless, channel_gained, added, receive_gained, all_noise}
 
 -- The chain over working samples, stage by stage: DC offset, imbalance, amplifier, multipath, frequency offset, clock offset,

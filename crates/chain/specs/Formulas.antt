@@ -4,14 +4,14 @@ use Rattle.samples.specs.Kinds.{working, air}
 use Rattle.samples.specs.declared.gain_index.GainIndex.{GainIndex}
 use Rattle.samples.specs.declared.kinds.AirSample.{AirSample}
 use Rattle.samples.specs.declared.kinds.WorkingSample.{WorkingSample}
-use Rattle.source.specs.Streams.{Stream}
+use Rattle.sources.specs.Streams.{Stream}
 use Rattle.stages.specs.Noise.{noise}
-use Rattle.impairments.specs.Levels.{offset_by, balanced, gained, chosen, summed}
-use Rattle.impairments.specs.declared.balance.Balance.{Balance}
-use Rattle.impairments.specs.declared.gain.Gain.{Gain}
-use Rattle.impairments.specs.declared.offset.Offset.{Offset}
-use Rattle.turns.specs.Amplifier.{amplified}
-use Rattle.turns.specs.declared.table.AmplifierTable.{AmplifierTable}
+use Rattle.stages.specs.Levels.{offset_by, balanced, gained, chosen, summed}
+use Rattle.stages.specs.declared.balance.Balance.{Balance}
+use Rattle.stages.specs.declared.gain.Gain.{Gain}
+use Rattle.stages.specs.declared.offset.Offset.{Offset}
+use Rattle.stages.specs.Amplifier.{amplified}
+use Rattle.stages.specs.declared.table.AmplifierTable.{AmplifierTable}
 
 -- DC offset and imbalance at 16 bits, which the transmitter has
 abbrev pub working_offset : Offset → WorkingSample → WorkingSample

@@ -1,3 +1,4 @@
-pub mod Formulas
 pub mod Chains
+pub mod Formulas
 pub mod Meanings
+pub mod Runs

@@ -2,13 +2,14 @@
 use Rattle.samples.specs.declared.converter.ConverterSample.{ConverterSample}
 use Rattle.samples.specs.declared.gain_index.GainIndex.{GainIndex}
 use Rattle.samples.specs.declared.kinds.WorkingSample.{WorkingSample}
-use Rattle.source.specs.Streams.{Stream}
-use Rattle.stages.specs.Meanings.{each_whole, each_left, scan_whole, scan_left, clock_whole, clock_left, pairing_whole, pairing_left, lead_whole, lead_left, noise_whole, noise_left}
-use Rattle.impairments.specs.Levels.{scaled, quantized}
-use Rattle.impairments.specs.Multipath.{echoes, used, silence, ring}
-use Rattle.impairments.specs.declared.scaling.Scaling.{Scaling}
-use Rattle.stages.specs.declared.each.Each.{Each}
-use Rattle.turns.specs.Frequency.{frequency_offset}
+use Rattle.sources.specs.Streams.{Stream}
+use Rattle.sources.specs.Meanings.{each_whole, each_left, scan_whole, scan_left, pairing_whole, pairing_left, lead_whole, lead_left}
+use Rattle.stages.specs.Meanings.{clock_whole, clock_left, noise_whole, noise_left}
+use Rattle.stages.specs.Levels.{scaled, quantized}
+use Rattle.stages.specs.Multipath.{echoes, used, silence, ring}
+use Rattle.stages.specs.declared.scaling.Scaling.{Scaling}
+use Rattle.sources.specs.declared.each.Each.{Each}
+use Rattle.stages.specs.Frequency.{frequency_offset}
 use Rattle.chain.specs.Formulas.{working_offset, working_balanced, air_offset, air_balanced, amplified_unless, channel_gained, added, receive_gained}
 use Rattle.chain.specs.declared.standard.Link.{Link}
 

@@ -5,4 +5,5 @@
 // keeps the contract of every source through every call.
 #![tactic(auto)]
 
+pub mod playing;
 pub mod standard;

@@ -3,43 +3,54 @@ ghost use Rattle.std.specs.Prelude.{◌≡◌};
 ghost use Rattle.chain.specs.Chains.{linked, played};
 ghost use Rattle.chain.specs.Meanings.{link_whole, link_left, chain_whole, chain_left};
 
-use impairments::adding::Adding;
-use impairments::converter::Quantizer;
-use impairments::dc::DcOffset;
-use impairments::gains::{FixedGain, ReceiveGain};
-use impairments::imbalance::Imbalance;
-use impairments::multipath::Multipath;
-use impairments::scaling::Scaling;
-use link::settings::Settings;
 use samples::converter::ConverterSample;
 use samples::gain_index::GainIndex;
 use samples::kinds::{AirSample, WorkingSample};
-use source::fault::Fault;
-use source::source::Source;
+use settings::settings::Settings;
+use sources::each::Each;
+use sources::fault::Fault;
+use sources::lead::Lead;
+use sources::pairing::Pairing;
+use sources::scan::Scan;
+use sources::source::Source;
+use stages::adding::Adding;
+use stages::amplifier::Amplifier;
 use stages::clock::Clock;
-use stages::each::Each;
-use stages::lead::Lead;
+use stages::converter::Quantizer;
+use stages::dc::DcOffset;
+use stages::frequency::Rotator;
+use stages::gains::{FixedGain, ReceiveGain};
+use stages::imbalance::Imbalance;
+use stages::multipath::Multipath;
 use stages::noise::Noise;
-use stages::pairing::Pairing;
-use stages::scan::Scan;
-use turns::amplifier::Amplifier;
-use turns::frequency::Rotator;
+use stages::scaling::Scaling;
 
 // How many items of noise there are.
 const NOISE_ITEMS: u32 = u32::MAX;
 
 // The chain's stages, each over those before it.
 type Shifted<S> = Each<S, DcOffset<WorkingSample>>;
+
 type Balanced<S> = Each<Shifted<S>, Imbalance<WorkingSample>>;
+
 type Amplified<S> = Each<Balanced<S>, Amplifier>;
+
 type Echoed<S> = Scan<Amplified<S>, Multipath>;
+
 type Turned<S> = Scan<Echoed<S>, Rotator>;
+
 type Resampled<S> = Clock<Turned<S>>;
+
 type OnAir<S> = Each<Resampled<S>, FixedGain<WorkingSample>>;
+
 type Noisy<S> = Each<Pairing<OnAir<S>, Noise>, Adding>;
+
 type Received<S, G> = Each<Pairing<Noisy<S>, Lead<G>>, ReceiveGain>;
+
 type RxShifted<S, G> = Each<Received<S, G>, DcOffset<AirSample>>;
+
 type RxBalanced<S, G> = Each<RxShifted<S, G>, Imbalance<AirSample>>;
+
 type Converted<S, G> = Each<RxBalanced<S, G>, Quantizer>;
 
 /// The chain over a source of working samples, which stands in for the signal and its scaling.

@@ -3,19 +3,19 @@ use anyhow::anyhow;
 use chain::standard::standard_chain;
 use comparison::difference::first_difference;
 use comparison::ending::Ends;
-use lines::entries::read_all;
-use lines::numbered::Numbered;
-use link::settings::Settings;
 use player::run::run;
 use recorder::session::{Part, record};
 use recorder::started::MAX_BYTES;
 use recordings::pair::LinkRecordings;
-use settings_file::reader;
+use settings::settings::Settings;
 use std::alloc::{AllocError, Global};
 use std::fs;
 use std::str::from_utf8;
-use transcript::answers::AnswerLines;
-use transcript::step::{Step, calls_of};
+use text::entries::read_all;
+use text::numbered::Numbered;
+use text::settings_file::reader;
+use text::transcript::answers::AnswerLines;
+use text::transcript::step::{Step, calls_of};
 
 fn bytes_of(rt: &HostRuntime, name: &str, kind: &str) -> anyhow::Result<Vec<u8>> {
     let file = format!(in rt.alloc(); "{name}.{kind}")?;

@@ -1,7 +1,7 @@
 -- Endings in words.
 use Rattle.std.specs.Prelude.{ℕ, List, ◌++◌, Option, Some, Result, Ok, Err, codes, decimal}
-use Rattle.source.specs.Faults.{fault_number}
-use Rattle.source.specs.declared.fault.Fault.{Fault}
+use Rattle.sources.specs.Faults.{fault_number}
+use Rattle.sources.specs.declared.fault.Fault.{Fault}
 
 -- `finished`, or the words of what ended it
 abbrev pub ends_text : {F : Type 0} → (F → Option (List ℕ)) → Result Unit F → Option (List ℕ)

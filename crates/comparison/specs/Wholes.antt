@@ -1,6 +1,6 @@
 -- What a source has left, when all of it was taken.
 use Rattle.std.specs.Prelude.{[]}
-use Rattle.source.specs.Streams.{Stream}
+use Rattle.sources.specs.Streams.{Stream}
 
 -- no item, and the ending as it was
 abbrev pub passed_over : {T : Type 0} → Stream T → Stream T

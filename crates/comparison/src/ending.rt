@@ -2,7 +2,7 @@
 ghost use Rattle.std.specs.Prelude.{Some};
 ghost use Rattle.comparison.specs.Endings.{ends_text, fault_text};
 
-use source::fault::Fault;
+use sources::fault::Fault;
 use std::fmt;
 
 /// How something ends: `finished`, or what ended it.

@@ -21,9 +21,13 @@ fn first_column(text: &str) -> Option<(&str, &str)>
 /// The columns of an entry `name | what | of what | answer`, without the blanks around them.
 #[derive(Clone, Copy, Debug)]
 pub struct Row<'a> {
+    /// The first column.
     pub name: &'a str,
+    /// The second.
     pub what: &'a str,
+    /// The third.
     pub of_what: &'a str,
+    /// The fourth.
     pub answer: &'a str,
 }
 

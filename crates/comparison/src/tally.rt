@@ -5,7 +5,9 @@ ghost use Rattle.comparison.specs.Tallies.{counted};
 /// How many cases were compared, and how many of them were wrong. Each count stops at 2^64 - 1.
 #[derive(Clone, Copy, Debug)]
 pub struct Tally {
+    /// All cases; counting stops at 2^64 - 1.
     pub cases: u64,
+    /// Those that were wrong.
     pub wrong: u64,
     ghost some: { wrong ≤ cases },
 }

@@ -1,8 +1,8 @@
 // Wholes of listed items.
 use crate::whole::Whole;
-use source::fault::{Fault, FaultKind};
-use source::listed::Listed;
-use source::source::Source;
+use sources::fault::{Fault, FaultKind};
+use sources::listed::Listed;
+use sources::source::Source;
 use std::test::Fail;
 
 #[test]

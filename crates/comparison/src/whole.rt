@@ -4,14 +4,16 @@ ghost use Rattle.comparison.specs.Differences.{whole_difference};
 ghost use Rattle.comparison.specs.Wholes.{passed_over};
 
 use crate::difference::first_difference;
-use source::fault::Ending;
-use source::source::Source;
+use sources::fault::Ending;
+use sources::source::Source;
 use std::alloc::{AllocError, Global};
 
 /// A whole as a list: the items, and how they end.
 #[derive(Debug, Drop)]
 pub struct Whole<T, E> {
+    /// The items, in order.
     pub items: Vec<T>,
+    /// How they end.
     pub ending: E,
 }
 

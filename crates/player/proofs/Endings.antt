@@ -2,7 +2,7 @@
 use Rattle.std.proofs.Common.{◌≡◌, ℕ, ◌<◌, min, Bool, true, false, eqb, ltb, List, [], ◌∷◌, length, Some, None, Ok, Err, arith}
 use Rattle.std.proofs.lemmas.Bool.{and_from, and_left, and_right, lt-ltb, le-ltb, eq-eqb, ne_eqb, cond-true, cond-false}
 use Rattle.std.specs.List.{slice_get}
-use Rattle.source.specs.Streams.{Ending}
+use Rattle.sources.specs.Streams.{Ending}
 use Rattle.player.specs.Plain.{ending_answer, none_came, answer_of}
 use Rattle.player.specs.Standing.{left_to_later}
 

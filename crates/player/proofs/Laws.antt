@@ -3,10 +3,10 @@ use Rattle.std.proofs.Common.{◌≡◌, ℕ, zero, suc, ◌+◌, ◌<◌, ◌�
 use Rattle.std.proofs.lemmas.List.{take_at}
 use Rattle.std.proofs.lemmas.Bool.{cases_eq, cond-true, cond-false}
 use Rattle.std.specs.List.{slice_get}
-use Rattle.source.specs.Streams.{Ending, Stream}
+use Rattle.sources.specs.Streams.{Ending, Stream}
 use Rattle.player.specs.declared.fault.PlayerFault.{PlayerFault}
 use Rattle.player.specs.Calls.{Asked, next, fill, skip, rewind, wanted, Told, item, filled, skipped}
-use Rattle.source.specs.Places.{stopped}
+use Rattle.sources.specs.Places.{stopped}
 use Rattle.player.specs.Plain.{handed_out, player_fault, ending_answer, none_came, answer_of, plain_next, plain_count, plain_buffer, plain_answer, plain_place, plain_run}
 use Rattle.player.specs.Runs.{brought_out, counted, place_after, count_ending, ending_told, fault_told, Turn, place_at, LawOfRuns}
 use Rattle.player.proofs.Endings.{none_came_true, none_came_some, none_came_unwanted, answers_ending, answers_some, answers_unwanted}

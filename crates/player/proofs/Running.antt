@@ -1,7 +1,7 @@
 -- A run of calls that each play is the plain player's run.
 use Rattle.std.proofs.Common.{◌≡◌, ℕ, List, [], ◌∷◌, ◌++◌, fold, map, sym, refl, ◌∙◌, subst, ap₂}
 use Rattle.std.proofs.lemmas.List.{map_push}
-use Rattle.source.specs.Streams.{Stream}
+use Rattle.sources.specs.Streams.{Stream}
 use Rattle.player.specs.declared.calls.Answer.{Answer}
 use Rattle.player.specs.declared.calls.Call.{Call}
 use Rattle.player.specs.Calls.{Asked, asked, Told, told}

@@ -2,9 +2,9 @@
 use Rattle.std.proofs.Common.{◌≡◌, ℕ, zero, suc, ◌+◌, min, cond, List, [], ◌∷◌, ◌++◌, length, take, drop, None, Ok, Err, sym, refl, ap, ◌∙◌, subst, ap₂, arith, length-drop}
 use Rattle.std.proofs.lemmas.List.{drop-drop}
 use Rattle.std.specs.List.{slice_get}
-use Rattle.source.specs.Streams.{Ending, Stream, from}
+use Rattle.sources.specs.Streams.{Ending, Stream, from}
 use Rattle.player.specs.Calls.{Asked, next, fill, skip, rewind, Told, item, filled, skipped}
-use Rattle.source.specs.Places.{stopped}
+use Rattle.sources.specs.Places.{stopped}
 use Rattle.player.specs.Plain.{handed_out, ending_answer, none_came, answer_of, plain_next, plain_count, plain_buffer, plain_answer, plain_place}
 use Rattle.player.specs.Standing.{Standing, coming, next_answer, count_answer, buffer_after, onward, answer_to, standing_after, Stands, Plays}
 

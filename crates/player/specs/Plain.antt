@@ -2,9 +2,9 @@
 -- place p, a number without limit, which is 0 when it is made.
 use Rattle.std.specs.Prelude.{ℕ, ◌+◌, ◌-◌, min, Bool, cond, ◌&&◌, List, [], ◌∷◌, ◌++◌, length, take, drop, None, Ok, Err, Option, Result, ◌==◌, nat_lt}
 use Rattle.std.specs.List.{slice_get}
-use Rattle.source.specs.Places.{stopped}
-use Rattle.source.specs.Streams.{Ending, Stream}
-use Rattle.source.specs.declared.fault.Fault.{Fault}
+use Rattle.sources.specs.Places.{stopped}
+use Rattle.sources.specs.Streams.{Ending, Stream}
+use Rattle.sources.specs.declared.fault.Fault.{Fault}
 use Rattle.player.specs.Calls.{Asked, next, fill, skip, rewind, Told, item, filled, skipped, rewound}
 use Rattle.player.specs.declared.fault.PlayerFault.{PlayerFault}
 

@@ -2,12 +2,12 @@
 -- that comes out is item k of one whole, and an ending is told only where that whole ends.
 use Rattle.std.specs.Prelude.{◌≡◌, ℕ, ◌+◌, ◌<◌, ◌≤◌, cond, List, [], ◌∷◌, ◌++◌, length, map, take, Some, None, Ok, Err, fold, Option, Result, Vec, vec_items}
 use Rattle.std.specs.List.{slice_get}
-use Rattle.source.specs.Streams.{Ending, Stream}
+use Rattle.sources.specs.Streams.{Ending, Stream}
 use Rattle.player.specs.declared.fault.PlayerFault.{PlayerFault}
 use Rattle.player.specs.declared.calls.Answer.{Answer}
 use Rattle.player.specs.declared.calls.Call.{Call}
 use Rattle.player.specs.Calls.{Asked, asked, wanted, Told, told, item, filled, skipped, rewound}
-use Rattle.source.specs.Places.{stopped}
+use Rattle.sources.specs.Places.{stopped}
 use Rattle.player.specs.Plain.{none_came, plain_run}
 use Rattle.player.specs.Standing.{Standing, Plays}
 

@@ -2,9 +2,9 @@
 -- alone, whatever the source has left; if that is what a whole has from a place on, it is what the plain player does.
 use Rattle.std.specs.Prelude.{◌≡◌, ℕ, ◌+◌, ◌≤◌, min, Bool, true, false, List, ◌++◌, length, take, drop, None, Ok, Err, Option, Result}
 use Rattle.std.specs.List.{slice_get}
-use Rattle.source.specs.Streams.{Stream, from}
+use Rattle.sources.specs.Streams.{Stream, from}
 use Rattle.player.specs.Calls.{Asked, next, fill, skip, rewind, Told, item, filled, skipped, rewound}
-use Rattle.source.specs.Places.{stopped}
+use Rattle.sources.specs.Places.{stopped}
 use Rattle.player.specs.Plain.{answer_of, plain_answer, plain_place}
 use Rattle.player.specs.declared.fault.PlayerFault.{PlayerFault}
 

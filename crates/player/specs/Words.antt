@@ -1,6 +1,6 @@
 -- The player's fault in words.
 use Rattle.std.specs.Prelude.{ℕ, List, ◌++◌, codes, decimal}
-use Rattle.source.specs.Faults.{fault_text}
+use Rattle.sources.specs.Faults.{fault_text}
 use Rattle.player.specs.declared.fault.PlayerFault.{PlayerFault}
 
 -- the source's fault, and the place

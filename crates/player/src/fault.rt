@@ -5,8 +5,8 @@ ghost use Rattle.player.specs.Words.{player_fault_text};
 ghost use Rattle.std.proofs.Common.{rules};
 
 use samples::exact::Exact;
-use source::fault::Fault;
-use source::place::LAST_PLACE;
+use sources::fault::Fault;
+use sources::place::LAST_PLACE;
 use std::fmt;
 
 /// What a player answers at a fault.

@@ -5,8 +5,8 @@ ghost use Rattle.player.specs.Runs.{EveryRunLawful};
 ghost use Rattle.player.specs.Standing.{next_answer, left_to_later, count_answer, buffer_after, onward, restarted, Plays, Stands};
 
 use crate::fault::PlayerFault;
-use source::place::Place;
-use source::source::Source;
+use sources::place::Place;
+use sources::source::Source;
 use std::marker::Model;
 
 /// Plays one source, which may be any pile of stages.

@@ -6,7 +6,7 @@ ghost use Rattle.player.specs.Standing.{answer_to, standing_after, Plays};
 
 use crate::calls::{Answer, Call};
 use crate::player::Player;
-use source::source::Source;
+use sources::source::Source;
 use std::alloc::{AllocError, Global};
 
 impl<S: Source> Player<S> {

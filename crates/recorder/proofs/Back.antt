@@ -9,16 +9,16 @@ use Rattle.samples.specs.Kinds.{converter}
 use Rattle.samples.specs.declared.converter.ConverterSample.{ConverterSample}
 use Rattle.samples.specs.Equal.{same_sample}
 use Rattle.samples.specs.Widths.{clip_same}
-use Rattle.source.specs.declared.fault.FaultKind.{FaultKind}
-use Rattle.source.specs.declared.fault.FaultKind.TheVariants.{LowBits}
-use Rattle.source.specs.Streams.{Stream, tabulate}
-use Rattle.wave.specs.declared.chunks.Step.{Step}
-use Rattle.wave.specs.declared.chunks.Step.TheVariants as steps
-use Rattle.wave.specs.declared.refusal.OpeningRefusal.{OpeningRefusal}
-use Rattle.wave.specs.declared.refusal.OpeningRefusal.TheVariants.{TooShort}
-use Rattle.wave.specs.Bytes.{u32_at}
-use Rattle.wave.specs.Chunks.{Test, tested, head, format_tests, data_tests, chunk, chunk_end, chunk_of, kind_at, chunks, from_step, find_data}
-use Rattle.wave.specs.Rates.{good_rate}
+use Rattle.sources.specs.declared.fault.FaultKind.{FaultKind}
+use Rattle.sources.specs.declared.fault.FaultKind.TheVariants.{LowBits}
+use Rattle.sources.specs.Streams.{Stream, tabulate}
+use Rattle.recordings.specs.declared.chunks.Step.{Step}
+use Rattle.recordings.specs.declared.chunks.Step.TheVariants as steps
+use Rattle.recordings.specs.declared.refusal.OpeningRefusal.{OpeningRefusal}
+use Rattle.recordings.specs.declared.refusal.OpeningRefusal.TheVariants.{TooShort}
+use Rattle.recordings.specs.Bytes.{u32_at}
+use Rattle.recordings.specs.Chunks.{Test, tested, head, format_tests, data_tests, chunk, chunk_end, chunk_of, kind_at, chunks, from_step, find_data}
+use Rattle.recordings.specs.Rates.{good_rate}
 use Rattle.recordings.specs.Items.{signal_item, part_of, item_at, before_fault, held_from}
 use Rattle.recordings.specs.Opening.{opened, signal_format, HandsOut}
 use Rattle.recorder.specs.Writing.{word, coded, size_of, recorded}

@@ -4,8 +4,8 @@ use Rattle.std.proofs.lemmas.List.{length-drop, length-take-le, flat_map_more}
 use Rattle.std.proofs.lemmas.Bool.Decides.{nat_tests}
 use Rattle.std.specs.List.{flat_map}
 use Rattle.samples.specs.declared.converter.ConverterSample.{ConverterSample}
-use Rattle.source.specs.Streams.{Ending, Stream, answer, at_end, rest, first_of, from, tail}
-use Rattle.wave.specs.Bytes.{overwrite}
+use Rattle.sources.specs.Streams.{Ending, Stream, answer, at_end, rest, first_of, from, tail}
+use Rattle.recordings.specs.Bytes.{overwrite}
 use Rattle.recorder.specs.Sessions.{taken, met}
 use Rattle.recorder.specs.Writing.{coded, size_of, fits, put_count, after_put}
 use Rattle.recorder.proofs.Back.{coded_length}

@@ -3,7 +3,7 @@ use Rattle.std.proofs.Common.{◌≡◌, ℕ, ◌+◌, ◌-◌, ◌*◌, ◌≤�
 use Rattle.std.proofs.lemmas.List.{length-append, length-take-le, length-drop, length_push, take_at, drop_at, drop-drop, take-append-drop, flat_map_more}
 use Rattle.std.specs.List.{flat_map}
 use Rattle.samples.specs.declared.converter.ConverterSample.{ConverterSample}
-use Rattle.wave.specs.Bytes.{overwrite}
+use Rattle.recordings.specs.Bytes.{overwrite}
 use Rattle.recordings.specs.Opening.{HandsOut, signal_opening}
 use Rattle.recorder.specs.Writing.{header, coded, size_of, recorded, sized, Adds, Finishes}
 use Rattle.recorder.proofs.Back.{hands_out, coded_length}

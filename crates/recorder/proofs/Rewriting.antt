@@ -3,10 +3,10 @@ use Rattle.std.proofs.Common.{◌≡◌, ℕ, ◌+◌, ◌*◌, Bool, true, cond
 use Rattle.std.proofs.lemmas.List.{take_all}
 use Rattle.std.proofs.lemmas.Bool.Decides.{nat_tests}
 use Rattle.samples.specs.declared.converter.ConverterSample.{ConverterSample}
-use Rattle.source.specs.Streams.{Stream}
-use Rattle.wave.specs.declared.refusal.OpeningRefusal.{OpeningRefusal}
+use Rattle.sources.specs.Streams.{Stream}
+use Rattle.recordings.specs.declared.refusal.OpeningRefusal.{OpeningRefusal}
 use Rattle.recorder.specs.declared.refusal.WritingRefusal.TheVariants.{Buffer, Rate}
-use Rattle.wave.specs.Bytes.{overwrite}
+use Rattle.recordings.specs.Bytes.{overwrite}
 use Rattle.recordings.specs.Opening.{Opened, signal_opening}
 use Rattle.recorder.specs.Sessions.{room, taken, part_of, after_record, as_writing, rewrite_answer, after_rewrite, Keeps}
 use Rattle.recorder.specs.Writing.{size_of, recorded, good_buffer}

@@ -4,12 +4,12 @@ use Rattle.std.proofs.lemmas.List.{length-take-le}
 use Rattle.std.proofs.lemmas.Bool.Decides.{nat_tests}
 use Rattle.std.specs.List.{flat_map}
 use Rattle.samples.specs.declared.converter.ConverterSample.{ConverterSample}
-use Rattle.source.specs.Streams.{Stream}
+use Rattle.sources.specs.Streams.{Stream}
 use Rattle.recorder.specs.declared.refusal.WritingRefusal.{WritingRefusal}
 use Rattle.recorder.specs.declared.refusal.WritingRefusal.TheVariants.{Buffer, Rate}
 use Rattle.recorder.specs.declared.started.StartedRecording.{StartedRecording}
-use Rattle.wave.specs.Bytes.{overwrite}
-use Rattle.wave.specs.Rates.{good_rate}
+use Rattle.recordings.specs.Bytes.{overwrite}
+use Rattle.recordings.specs.Rates.{good_rate}
 use Rattle.recordings.specs.Opening.{HandsOut, signal_opening}
 use Rattle.recorder.specs.Sessions.{room, taken, after_record, ComesBack}
 use Rattle.recorder.specs.Writing.{header, coded, size_of, recorded, good_buffer, fits, sized, start_answer, after_start, after_finish}

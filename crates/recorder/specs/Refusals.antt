@@ -1,6 +1,6 @@
 -- The number of each refusal of writing and of rewriting, and its words.
 use Rattle.std.specs.Prelude.{ℕ, List, codes}
-use Rattle.wave.specs.Refusals.{opening_number, opening_text}
+use Rattle.recordings.specs.Refusals.{opening_number, opening_text}
 use Rattle.recorder.specs.declared.refusal.RewritingRefusal.{RewritingRefusal}
 use Rattle.recorder.specs.declared.refusal.RewritingRefusal.TheVariants.{Opening, Writing}
 use Rattle.recorder.specs.declared.refusal.WritingRefusal.{WritingRefusal}

@@ -2,15 +2,15 @@
 use Rattle.std.specs.Prelude.{◌≡◌, ℕ, ◌-◌, ◌/◌, ◌≤◌, min, Bool, true, cond, ◌&&◌, List, length, take, Some, None, Ok, Err, Option, Result, nat_le}
 use Rattle.std.specs.List.{flat_map}
 use Rattle.samples.specs.declared.converter.ConverterSample.{ConverterSample}
-use Rattle.source.specs.Streams.{Ending, Stream, from}
-use Rattle.wave.specs.declared.refusal.OpeningRefusal.{OpeningRefusal}
+use Rattle.sources.specs.Streams.{Ending, Stream, from}
+use Rattle.recordings.specs.declared.refusal.OpeningRefusal.{OpeningRefusal}
 use Rattle.recorder.specs.declared.refusal.RewritingRefusal.{RewritingRefusal}
 use Rattle.recorder.specs.declared.refusal.RewritingRefusal.TheVariants.{Opening, Writing}
 use Rattle.recorder.specs.declared.refusal.WritingRefusal.{WritingRefusal}
 use Rattle.recorder.specs.declared.refusal.WritingRefusal.TheVariants.{Full}
 use Rattle.recorder.specs.declared.session.Part.{Part}
-use Rattle.wave.specs.Bytes.{overwrite}
-use Rattle.wave.specs.Rates.{good_rate}
+use Rattle.recordings.specs.Bytes.{overwrite}
+use Rattle.recordings.specs.Rates.{good_rate}
 use Rattle.recordings.specs.Opening.{Opened, HandsOut}
 use Rattle.recorder.specs.Writing.{coded, size_of, recorded, good_buffer, fits, accepting}
 

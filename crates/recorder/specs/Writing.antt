@@ -5,8 +5,8 @@ use Rattle.samples.specs.declared.converter.ConverterSample.{ConverterSample}
 use Rattle.recorder.specs.declared.refusal.WritingRefusal.{WritingRefusal}
 use Rattle.recorder.specs.declared.refusal.WritingRefusal.TheVariants.{Buffer, Full, Rate}
 use Rattle.recorder.specs.declared.started.StartedRecording.{StartedRecording}
-use Rattle.wave.specs.Bytes.{le16, le32, overwrite}
-use Rattle.wave.specs.Rates.{good_rate}
+use Rattle.recordings.specs.Bytes.{le16, le32, overwrite}
+use Rattle.recordings.specs.Rates.{good_rate}
 use Rattle.recordings.specs.Opening.{HandsOut}
 
 -- the 44 bytes before the samples, with the size of what follows the first 8 bytes, and of the samples

@@ -1,7 +1,7 @@
 // The bytes of a written recording.
 ghost use Rattle.std.specs.Prelude.{◌≡◌, ◌+◌, ◌≤◌, length};
 ghost use Rattle.samples.specs.Arithmetic.{Within};
-ghost use Rattle.wave.specs.Bytes.{overwrite, le16};
+ghost use Rattle.recordings.specs.Bytes.{overwrite, le16};
 ghost use Rattle.recorder.specs.Writing.{header, word, coded};
 
 use crate::started::HEADER;

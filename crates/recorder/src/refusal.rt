@@ -4,9 +4,9 @@ ghost use Rattle.recorder.specs.Refusals.{writing_number, writing_text, rewritin
 ghost use Rattle.recorder.specs.declared.refusal.RewritingRefusal.TheVariants.{Opening, Writing};
 ghost use Rattle.std.proofs.Common.{rules};
 
+use recordings::refusal::OpeningRefusal;
 use samples::exact::Exact;
 use std::fmt;
-use wave::refusal::OpeningRefusal;
 
 /// Why the writer does not do what it was asked.
 #[derive(Clone, Copy, PartialEq, Eq, Debug)]

@@ -1,6 +1,6 @@
 // Whole sessions: one recording of what a source has left, and a recording read and rewritten.
 ghost use Rattle.std.specs.Prelude.{◌≡◌, ◌+◌, ◌≤◌, length, take, IfOk, Ok, OnOk};
-ghost use Rattle.source.specs.Streams.{from};
+ghost use Rattle.sources.specs.Streams.{from};
 ghost use Rattle.recordings.specs.Opening.{signal_opening, AsDefined, HandsOut};
 ghost use Rattle.recorder.specs.Sessions.{taken, met, record_answer, after_record, left_after_record, filled, ComesBack, write_answer, after_write, rewrite_answer, after_rewrite, Keeps};
 ghost use Rattle.recorder.specs.Writing.{size_of};
@@ -12,9 +12,9 @@ use recordings::layout::Signal;
 use recordings::recording::Recording;
 use samples::converter::ConverterSample;
 use samples::exact::Exact;
-use source::fault::Ending;
-use source::listed::Listed;
-use source::source::Source;
+use sources::fault::Ending;
+use sources::listed::Listed;
+use sources::source::Source;
 
 /// One recording that was written.
 #[derive(Clone, Copy, PartialEq, Eq, Debug)]

@@ -5,8 +5,8 @@ ghost use Rattle.recorder.specs.Writing.{accept_answer, start_answer, after_star
 
 use crate::encoding::{coded, header, place};
 use crate::refusal::WritingRefusal;
+use recordings::format::MAX_RATE;
 use samples::converter::ConverterSample;
-use wave::format::MAX_RATE;
 
 /// The bytes before the samples.
 pub const HEADER: usize = 44;

@@ -2,8 +2,8 @@
 use Rattle.std.proofs.Common.{◌≡◌, ℕ, zero, suc, ◌+◌, ◌-◌, ◌*◌, ◌/◌, ◌<◌, ◌≤◌, List, [], ◌∷◌, length, take, drop, Some, None, Ok, Err, Result, sym, refl, ap, ◌∙◌, ap₂, add-mul, one-mul, zero-mul, arith, length-drop}
 use Rattle.std.proofs.Math.Nat.{div-eq-sub-div, div-eq_of_lt}
 use Rattle.std.proofs.lemmas.List.{drop-drop}
-use Rattle.source.specs.declared.fault.FaultKind.{FaultKind}
-use Rattle.source.specs.Streams.{tabulate, answer, rest}
+use Rattle.sources.specs.declared.fault.FaultKind.{FaultKind}
+use Rattle.sources.specs.Streams.{tabulate, answer, rest}
 use Rattle.recordings.specs.Items.{item_at, before_fault, held_from, left_of}
 
 -- the items from the second on are the items of what is behind the first

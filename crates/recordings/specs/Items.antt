@@ -4,10 +4,10 @@ use Rattle.samples.specs.Arithmetic.{floor_by}
 use Rattle.samples.specs.Kinds.{converter, gain_index}
 use Rattle.samples.specs.declared.converter.ConverterSample.{ConverterSample}
 use Rattle.samples.specs.declared.gain_index.GainIndex.{GainIndex}
-use Rattle.source.specs.declared.fault.FaultKind.{FaultKind}
-use Rattle.source.specs.declared.fault.FaultKind.TheVariants.{LowBits, GainOver}
-use Rattle.source.specs.Streams.{Ending, Stream, tabulate}
-use Rattle.wave.specs.Bytes.{u16_at}
+use Rattle.sources.specs.declared.fault.FaultKind.{FaultKind}
+use Rattle.sources.specs.declared.fault.FaultKind.TheVariants.{LowBits, GainOver}
+use Rattle.sources.specs.Streams.{Ending, Stream, tabulate}
+use Rattle.recordings.specs.Bytes.{u16_at}
 
 -- 16 bits as a signed number
 abbrev pub signed16 : ℕ → ℤ

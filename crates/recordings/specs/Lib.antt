@@ -1,3 +1,9 @@
+pub mod Bytes
+pub mod Chunks
+pub mod Equal
 pub mod Items
 pub mod Opening
 pub mod Pair
+pub mod Rates
+pub mod Reaching
+pub mod Refusals

@@ -3,12 +3,12 @@ use Rattle.std.specs.Prelude.{◌≡◌, ℕ, ◌/◌, List, take, drop, Ok, Err
 use Rattle.std.proofs.Common.{lit<}
 use Rattle.samples.specs.declared.converter.ConverterSample.{ConverterSample}
 use Rattle.samples.specs.declared.gain_index.GainIndex.{GainIndex}
-use Rattle.source.specs.declared.fault.FaultKind.{FaultKind}
-use Rattle.source.specs.Streams.{Stream}
-use Rattle.wave.specs.declared.chunks.Found.{Found}
-use Rattle.wave.specs.declared.format.Format.{Format}
-use Rattle.wave.specs.declared.refusal.OpeningRefusal.{OpeningRefusal}
-use Rattle.wave.specs.Chunks.{find_data}
+use Rattle.sources.specs.declared.fault.FaultKind.{FaultKind}
+use Rattle.sources.specs.Streams.{Stream}
+use Rattle.recordings.specs.declared.chunks.Found.{Found}
+use Rattle.recordings.specs.declared.format.Format.{Format}
+use Rattle.recordings.specs.declared.refusal.OpeningRefusal.{OpeningRefusal}
+use Rattle.recordings.specs.Chunks.{find_data}
 use Rattle.recordings.specs.Items.{held_from, signal_item, gain_item}
 
 -- an opened recording: its rate, and everything that it holds

@@ -2,7 +2,7 @@
 use Rattle.std.specs.Prelude.{ℕ, List, Ok, Err, Result}
 use Rattle.samples.specs.declared.converter.ConverterSample.{ConverterSample}
 use Rattle.samples.specs.declared.gain_index.GainIndex.{GainIndex}
-use Rattle.wave.specs.declared.refusal.OpeningRefusal.{OpeningRefusal}
+use Rattle.recordings.specs.declared.refusal.OpeningRefusal.{OpeningRefusal}
 use Rattle.recordings.specs.Opening.{Opened, signal_opening, gain_opening}
 use Rattle.recordings.specs.declared.pair.Input.{Input}
 use Rattle.recordings.specs.declared.pair.Input.TheVariants.{Signal, Gain}

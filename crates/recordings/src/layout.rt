@@ -1,15 +1,15 @@
 // The two kinds of recording: how an item stands in its bytes.
 ghost use Rattle.std.specs.Prelude.{◌≡◌, ℕ, List, Result};
-ghost use Rattle.wave.specs.declared.format.Format.{Format};
-ghost use Rattle.source.specs.declared.fault.FaultKind.{FaultKind};
+ghost use Rattle.recordings.specs.declared.format.Format.{Format};
+ghost use Rattle.sources.specs.declared.fault.FaultKind.{FaultKind};
 ghost use Rattle.recordings.specs.Opening.{signal_format, gain_format};
 ghost use Rattle.recordings.specs.Items.{part_of, signal_item, gain_item};
 
+use crate::format::Format;
 use samples::converter::ConverterSample;
 use samples::gain_index::GainIndex;
 use samples::sample::Sample;
-use source::fault::FaultKind;
-use wave::format::Format;
+use sources::fault::FaultKind;
 
 /// A kind of recording: its format, and what the bytes of one item mean. Each item may have a fault of its own kind; a
 /// layout in which all bytes are good has none.

@@ -6,9 +6,9 @@ ghost use Rattle.std.proofs.Common.{rules};
 
 use crate::layout::{Gains, Signal};
 use crate::recording::Recording;
+use crate::refusal::OpeningRefusal;
 use samples::exact::Exact;
-use source::source::Source;
-use wave::refusal::OpeningRefusal;
+use sources::source::Source;
 
 /// Which of the two.
 #[derive(Clone, Copy, PartialEq, Eq, Debug)]

@@ -2,14 +2,14 @@
 ghost use Rattle.std.specs.Prelude.{◌≡◌, ◌≤◌, length, IfOk};
 ghost use Rattle.recordings.specs.Items.{whole_of, left_of};
 ghost use Rattle.recordings.specs.Opening.{opening, AsDefined};
-ghost use Rattle.source.specs.Streams.{answer, rest};
+ghost use Rattle.sources.specs.Streams.{answer, rest};
 
+use crate::chunks::{Found, find_data};
 use crate::layout::Layout;
-use source::fault::Fault;
-use source::source::Source;
+use crate::refusal::OpeningRefusal;
+use sources::fault::Fault;
+use sources::source::Source;
 use std::marker::PhantomData;
-use wave::chunks::{Found, find_data};
-use wave::refusal::OpeningRefusal;
 
 /// What a recording holds: a source of its items. The fault of a bad item holds what is wrong with it, the recording's
 /// input number, and the item's place, from 0.

@@ -3,7 +3,7 @@ ghost use Rattle.std.specs.Prelude.{◌≡◌, ◌-◌, ◌^◌, ◌≤◌, pos,
 ghost use Rattle.samples.specs.Arithmetic.{floor_by, clip};
 ghost use Rattle.samples.specs.Laws.{Clips, Floors};
 
-// floor (x / 2^k), for every k.
+/// floor (x / 2^k), for every k.
 pub fn floor_shift(x: i64, k: u32) -> i64
     ensures value { result ≡ floor_by x (2 ^ k) }
     ensures laws { Floors }

@@ -11,7 +11,7 @@ fn part_product(a: i16, b: i16) -> i64
     i64::from(a) * i64::from(b)
 }
 
-// The whole product, before any division.
+/// The whole product, before any division.
 pub fn product(z: (i16, i16), w: (i16, i16)) -> (i64, i64)
     ensures value { result ≡ times z w }
     ensures re_within { Between (2 ^ 31) result.0 }

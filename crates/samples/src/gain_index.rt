@@ -2,9 +2,10 @@ ghost use Rattle.std.specs.Prelude.{◌≤◌};
 
 use crate::exact::Exact;
 
-// Which of the 128 receive gains is meant, 0 to 127.
+/// Which of the 128 receive gains is meant, 0 to 127.
 #[derive(Clone, Copy, PartialEq, Eq, Debug)]
 pub struct GainIndex {
+    /// 0 to 127.
     pub index: u8,
     ghost within: { index ≤ 127 },
 }
@@ -12,5 +13,6 @@ pub struct GainIndex {
 impl Exact for GainIndex {
     ghost use Rattle.samples.specs.Equal.{same_index};
     ghost use Rattle.std.proofs.Common.{rules};
+
     ghost exact = { λ x y. (λ h. same_index x y (Prim.search rules), λ e. Prim.search rules) };
 }

@@ -5,7 +5,7 @@ ghost use Rattle.samples.specs.Interpolation.{linear};
 
 use crate::arithmetic::floor_shift;
 
-// The number `part` of 65536 parts of the way from a to b, rounded down: it lies between a and b.
+/// The number `part` of 65536 parts of the way from a to b, rounded down: it lies between a and b.
 pub fn linear(a: i16, b: i16, part: u16) -> i16
     ensures value { result ≡ linear a b part 16 }
     ensures low { int_min a b ≤ℤ result }

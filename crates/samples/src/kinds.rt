@@ -10,22 +10,26 @@ use crate::converter::ConverterSample;
 use crate::gain_index::GainIndex;
 use crate::sample::Sample;
 
-// What the stages of transmitter and channel work on: 16 bits a part, -32768 to 32767.
+/// What the stages of transmitter and channel work on: 16 bits a part, -32768 to 32767.
 #[derive(Clone, Copy, PartialEq, Eq, Debug)]
 pub struct WorkingSample {
+    /// The real part.
     pub re: i16,
+    /// The imaginary part.
     pub im: i16,
 }
 
-// What is on the air and in the receiver: 32 bits a part, -2^31 to 2^31 - 1.
+/// What is on the air and in the receiver: 32 bits a part, -2^31 to 2^31 - 1.
 #[derive(Clone, Copy, PartialEq, Eq, Debug)]
 pub struct AirSample {
+    /// The real part.
     pub re: i32,
+    /// The imaginary part.
     pub im: i32,
 }
 
 impl WorkingSample {
-    // The sample 0, as what stands before the first one.
+    /// The sample 0, as what stands before the first one.
     pub const SILENCE: WorkingSample = WorkingSample { re: 0, im: 0 };
 }
 
@@ -142,7 +146,7 @@ impl Sample for AirSample {
 }
 
 impl GainIndex {
-    // The index nearest to n.
+    /// The index nearest to n.
     pub fn new(n: i64) -> Self
         ensures { result ≡ gain_index n }
     {

@@ -45,9 +45,9 @@ fn signed(x: u16, negative: bool) -> i16
     if negative { -(x as i16) } else { x as i16 }
 }
 
-// Cosine and sine of n of 1024 parts of a turn. n counts modulo 1024.
-//
-// In the odd quarters the table is read backwards. The cosine is negative in quarters 1 and 2, the sine in 2 and 3.
+/// Cosine and sine of n of 1024 parts of a turn. n counts modulo 1024.
+///
+/// In the odd quarters the table is read backwards. The cosine is negative in quarters 1 and 2, the sine in 2 and 3.
 pub fn phasor(n: u16) -> (i16, i16)
     ensures value { result ≡ phasor_of n }
     ensures cosine_within { Between 16384 result.0 }
@@ -63,14 +63,14 @@ pub fn phasor(n: u16) -> (i16, i16)
     )
 }
 
-// The index of the phasor for a phase of 2^48 a turn.
+/// The index of the phasor for a phase of 2^48 a turn.
 pub fn index_48(phase: u64) -> u16
     ensures { result ≡ index_48 phase }
 {
     ((phase % (1 << 48)) >> 38) as u16
 }
 
-// The index of the phasor for a phase of 65536 a turn.
+/// The index of the phasor for a phase of 65536 a turn.
 pub fn index_16(phase: i64) -> u16
     ensures { result ≡ index_16 phase }
 {

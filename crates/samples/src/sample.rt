@@ -5,7 +5,7 @@ ghost use Rattle.samples.specs.Laws.{Clips};
 
 use crate::arithmetic::floor_shift;
 
-// A sample has two parts of `bits` bits each.
+/// A sample has two parts of `bits` bits each.
 pub trait Sample: Copy + PartialEq {
     ghost bits: { ℕ };
 

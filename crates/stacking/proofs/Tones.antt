@@ -1,6 +1,6 @@
 -- While samples are left, the first is the one at the tone's place, and then those from the next place on are left.
 use Rattle.std.proofs.Common.{◌≡◌, ℕ, suc, ◌+◌, ◌-◌, ◌<◌, ◌∷◌, ap, arith}
-use Rattle.source.specs.Streams.{tabulate}
+use Rattle.sources.specs.Streams.{tabulate}
 use Rattle.stacking.specs.Tones.{tone_ending, tone_from, tone_sample}
 
 pub next_sample : (turn length p : ℕ) → p < length → tone_from turn length p ≡ record { items = tone_sample turn p ∷ (tone_from turn length (p + 1)).items; ending = tone_ending length }

@@ -2,14 +2,14 @@
 use Rattle.std.specs.Prelude.{false}
 use Rattle.samples.specs.Kinds.{working}
 use Rattle.samples.specs.declared.kinds.WorkingSample.{WorkingSample}
-use Rattle.source.specs.Streams.{Stream}
+use Rattle.sources.specs.Streams.{Stream}
 use Rattle.stages.specs.Clock.{clocked, clock_step}
-use Rattle.stages.specs.Wholes.{each, remade}
+use Rattle.sources.specs.Wholes.{each, remade}
 use Rattle.stages.specs.declared.clock_offset.ClockOffset.{ClockOffset}
-use Rattle.impairments.specs.Levels.{offset_by}
-use Rattle.impairments.specs.Multipath.{echoes, silence, used}
-use Rattle.impairments.specs.declared.offset.Offset.{Offset}
-use Rattle.impairments.specs.declared.paths.Paths.{Paths}
+use Rattle.stages.specs.Levels.{offset_by}
+use Rattle.stages.specs.Multipath.{echoes, silence, used}
+use Rattle.stages.specs.declared.offset.Offset.{Offset}
+use Rattle.stages.specs.declared.paths.Paths.{Paths}
 
 -- clock offset, then multipath, then DC offset
 abbrev pub heard : ClockOffset → Paths → Offset → Stream WorkingSample → Stream WorkingSample

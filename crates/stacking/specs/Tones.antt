@@ -3,8 +3,8 @@ use Rattle.std.specs.Prelude.{ℕ, ◌-◌, ◌*◌, ◌%◌, Err}
 use Rattle.samples.specs.Kinds.{working}
 use Rattle.samples.specs.Phasors.{phasor_of}
 use Rattle.samples.specs.declared.kinds.WorkingSample.{WorkingSample}
-use Rattle.source.specs.Streams.{Ending, Stream, tabulate}
-use Rattle.source.specs.declared.fault.FaultKind.TheVariants.{Other}
+use Rattle.sources.specs.Streams.{Ending, Stream, tabulate}
+use Rattle.sources.specs.declared.fault.FaultKind.TheVariants.{Other}
 
 -- sample k, where a sample turns it by `turn` of 1024 parts of a turn
 abbrev pub tone_sample : ℕ → ℕ → WorkingSample

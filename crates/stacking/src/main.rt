@@ -7,12 +7,12 @@
 mod stack;
 mod tone;
 
-use impairments::offset::Offset;
-use impairments::path::Path;
-use impairments::paths::Paths;
 use samples::kinds::WorkingSample;
 use stack::tone_player;
 use stages::clock_offset::ClockOffset;
+use stages::offset::Offset;
+use stages::path::Path;
+use stages::paths::Paths;
 
 fn run(rt: &HostRuntime) -> anyhow::Result<()> {
     let direct = Path {

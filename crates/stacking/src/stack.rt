@@ -5,17 +5,17 @@ ghost use Rattle.stacking.specs.Stacks.{heard};
 ghost use Rattle.stacking.specs.Tones.{tone};
 
 use crate::tone::Tone;
-use impairments::dc::DcOffset;
-use impairments::multipath::Multipath;
-use impairments::offset::Offset;
-use impairments::paths::Paths;
 use player::player::Player;
 use samples::kinds::WorkingSample;
-use source::source::Source;
+use sources::each::Each;
+use sources::scan::Scan;
+use sources::source::Source;
 use stages::clock::Clock;
 use stages::clock_offset::ClockOffset;
-use stages::each::Each;
-use stages::scan::Scan;
+use stages::dc::DcOffset;
+use stages::multipath::Multipath;
+use stages::offset::Offset;
+use stages::paths::Paths;
 
 /// Clock offset, then multipath, then DC offset, over a tone.
 pub(crate) type Heard = Each<Scan<Clock<Tone>, Multipath>, DcOffset<WorkingSample>>;

@@ -5,8 +5,8 @@ ghost use Rattle.stacking.specs.Tones.{tone, tone_from, tone_sample};
 use samples::kinds::WorkingSample;
 use samples::phasor::phasor;
 use samples::sample::Sample;
-use source::fault::{Fault, FaultKind};
-use source::source::Source;
+use sources::fault::{Fault, FaultKind};
+use sources::source::Source;
 
 /// The number of the tone's fault, which it chose itself.
 pub(crate) const TONE_IS_OVER: u8 = 100;

@@ -1,10 +1,10 @@
 -- The clock's whole and left as streams.
 use Rattle.std.proofs.Common.{◌≡◌, ℕ, ◌^◌, List, ap, ◌∙◌}
 use Rattle.samples.specs.declared.kinds.WorkingSample.{WorkingSample}
-use Rattle.source.specs.Streams.{Stream}
+use Rattle.sources.specs.Streams.{Stream}
 use Rattle.samples.specs.Kinds.{silent}
 use Rattle.stages.specs.Clock.{outputs, outputs_from, outputs_on}
-use Rattle.stages.specs.Wholes.{remade}
+use Rattle.sources.specs.Wholes.{remade}
 use Rattle.stages.specs.declared.line.Line.{Line}
 use Rattle.stages.proofs.Outputs.{started}
 

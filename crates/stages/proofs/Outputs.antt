@@ -1,7 +1,7 @@
 -- What the clock makes from any state, one draw and one output on.
 use Rattle.std.proofs.Common.{◌≡◌, ℕ, suc, ◌+◌, ◌-◌, ◌*◌, ◌/◌, ◌^◌, ◌<◌, ◌≤◌, List, [], ◌∷◌, length, get_or, refl, ap, ◌∙◌, suc-mul, zero-mul, add-one, arith}
 use Rattle.samples.specs.declared.kinds.WorkingSample.{WorkingSample}
-use Rattle.source.specs.Streams.{tabulate}
+use Rattle.sources.specs.Streams.{tabulate}
 use Rattle.samples.specs.Kinds.{silent}
 use Rattle.stages.specs.Clock.{index, fraction, sample_between, on_line, output_at, count_from, outputs, outputs_from}
 use Rattle.stages.proofs.Positions.{count_on, count_start, count_none, count_more}

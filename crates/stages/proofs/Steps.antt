@@ -1,8 +1,8 @@
 -- One item of noise, and the others from the states after one step.
 use Rattle.std.proofs.Common.{◌≡◌, ℕ, suc, ◌+◌, ◌-◌, ◌<◌, List, ◌∷◌, ℤ, Some, Ok, Option, Result, sym, ap, ◌∙◌, add-one}
 use Rattle.samples.specs.declared.kinds.AirSample.{AirSample}
-use Rattle.source.specs.Streams.{answer, rest, first_of, tail, tabulate}
-use Rattle.source.specs.declared.fault.Fault.{Fault}
+use Rattle.sources.specs.Streams.{answer, rest, first_of, tail, tabulate}
+use Rattle.sources.specs.declared.fault.Fault.{Fault}
 use Rattle.stages.specs.Noise.{stepped, steps, level, noise_item, noise}
 use Rattle.stages.proofs.Tables.{tabulate_on, tabulate_first}
 

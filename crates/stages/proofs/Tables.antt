@@ -1,6 +1,6 @@
 -- Lists made from a function of the index.
 use Rattle.std.proofs.Common.{◌≡◌, ℕ, zero, suc, ◌+◌, ◌-◌, ◌<◌, ◌∷◌, refl, not-suc-le-zero, sub-one}
-use Rattle.source.specs.Streams.{tabulate}
+use Rattle.sources.specs.Streams.{tabulate}
 
 -- equal functions make equal lists
 pub tabulate_same : {T : Type 0} (f g : ℕ → T) → ((j : ℕ) → f j ≡ g j) → (k n : ℕ) → tabulate f k n ≡ tabulate g k n

@@ -4,8 +4,8 @@ use Rattle.std.specs.Prelude.{ℕ, ◌+◌, ◌-◌, ◌*◌, ◌/◌, ◌%◌, 
 use Rattle.samples.specs.Interpolation.{linear}
 use Rattle.samples.specs.Kinds.{silent}
 use Rattle.samples.specs.declared.kinds.WorkingSample.{WorkingSample}
-use Rattle.source.specs.Streams.{Stream, tabulate}
-use Rattle.stages.specs.Wholes.{remade}
+use Rattle.sources.specs.Streams.{Stream, tabulate}
+use Rattle.sources.specs.Wholes.{remade}
 use Rattle.stages.specs.declared.line.Line.{Line}
 
 -- how far two outputs are apart: 2 ^ 53 + c

@@ -1,4 +1,9 @@
+pub mod Amplifier
 pub mod Clock
+pub mod Frequency
+pub mod Levels
 pub mod Meanings
+pub mod Multipath
 pub mod Noise
-pub mod Wholes
+pub mod Turns
+pub mod Worked

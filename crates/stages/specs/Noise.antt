@@ -1,7 +1,7 @@
 -- Noise: two generators of 32 bits, one a part.
 use Rattle.std.specs.Prelude.{ℕ, zero, suc, ◌+◌, ◌*◌, ◌/◌, ◌%◌, ◌^◌, ℤ, pos, ◌-ℤ◌, ◌*ℤ◌, bit_xor, count_ones, Ok}
 use Rattle.samples.specs.declared.kinds.AirSample.{AirSample}
-use Rattle.source.specs.Streams.{Stream, tabulate}
+use Rattle.sources.specs.Streams.{Stream, tabulate}
 
 -- v xor (v << k), bits above 31 dropped
 abbrev pub mixed_up : ℕ → ℕ → ℕ

@@ -2,17 +2,17 @@
 ghost use Rattle.std.specs.Prelude.{◌≡◌, ◌+◌, ◌-◌, ◌^◌, ◌<◌, ◌≤◌, List, ◌∷◌, length, pos, ◌+ℤ◌, nat_le};
 ghost use Rattle.samples.specs.Kinds.{silent};
 ghost use Rattle.samples.specs.declared.kinds.WorkingSample.{WorkingSample as Working};
-ghost use Rattle.source.specs.Streams.{answer, rest};
+ghost use Rattle.sources.specs.Streams.{answer, rest};
 ghost use Rattle.stages.specs.Clock.{clock_step, index, outputs_on, needed, clocked, ExistsExactly};
-ghost use Rattle.stages.specs.Wholes.{remade};
+ghost use Rattle.sources.specs.Wholes.{remade};
 ghost use Rattle.stages.specs.Meanings.{clock_whole, clock_left};
 
 use crate::clock_offset::ClockOffset;
 use crate::interpolation::interpolate;
 use crate::line::Line;
 use samples::kinds::WorkingSample;
-use source::fault::Fault;
-use source::source::Source;
+use sources::fault::Fault;
+use sources::source::Source;
 
 // One item below, in the units of a position.
 const ITEM: u64 = 0x20_0000_0000_0000;
@@ -97,7 +97,7 @@ impl Line {
     }
 }
 
-// A line between the items below; none where the clock is bypassed.
+/// A line between the items below; none where the clock is bypassed.
 #[derive(Drop)]
 pub struct Clock<S> {
     line: Option<Line>,
@@ -105,7 +105,7 @@ pub struct Clock<S> {
 }
 
 impl<S: Source<Item = WorkingSample>> Clock<S> {
-    // Output m stands at position m × (2^53 + c), in units of 2^-53 of an item below. Bypassed, the items below pass.
+    /// Output m stands at position m × (2^53 + c), in units of 2^-53 of an item below. Bypassed, the items below pass.
     pub fn new(bypassed: bool, offset: ClockOffset, mut below: S) -> Self
         ensures whole { ⟦<Self as Source>⟧.whole result ≡ clocked bypassed (clock_step offset.c) (S.Source.whole below) }
         ensures left { ⟦<Self as Source>⟧.left result ≡ clocked bypassed (clock_step offset.c) (S.Source.whole below) }

@@ -5,8 +5,8 @@ ghost use Rattle.stages.specs.Noise.{stepped, level, noise};
 
 use crate::seeds::Seeds;
 use samples::kinds::AirSample;
-use source::fault::Fault;
-use source::source::Source;
+use sources::fault::Fault;
+use sources::source::Source;
 
 // One step of a generator; bits above 31 are dropped.
 fn step(v: u32) -> u32
@@ -24,7 +24,7 @@ fn level_of(v: u32) -> i32
     (v.count_ones() as i32 - 16) * 199
 }
 
-// So many air samples, 0 to 2^32 - 1, each part -2985 to 3184.
+/// So many air samples, 0 to 2^32 - 1, each part -2985 to 3184.
 #[derive(Drop)]
 pub struct Noise {
     seeds: Seeds,
@@ -37,7 +37,7 @@ pub struct Noise {
 }
 
 impl Noise {
-    // `count` samples, 0 to 2^32 - 1.
+    /// `count` samples, 0 to 2^32 - 1.
     pub fn new(seeds: Seeds, count: u32) -> Self
         ensures whole { ⟦<Self as Source>⟧.whole result ≡ noise count seeds.re seeds.im }
         ensures left { ⟦<Self as Source>⟧.left result ≡ noise count seeds.re seeds.im }

@@ -3,7 +3,7 @@ use crate::failure::Failure;
 use recordings::pair::Input;
 use std::{env, fmt, io};
 
-// What a file is opened as, in the words of the command.
+/// What a file is opened as, in the words of the command.
 #[derive(Clone, Copy)]
 pub struct Kind(pub Input);
 
@@ -28,7 +28,7 @@ impl fmt::Display for Kind {
     }
 }
 
-// The files that a chain is made of. Without a settings file the settings are fresh.
+/// The files that a chain is made of. Without a settings file the settings are fresh.
 #[derive(Clone, Copy)]
 pub struct Inputs<'a> {
     pub signal: &'a str,
@@ -46,18 +46,18 @@ impl<'a> Inputs<'a> {
     }
 }
 
-// What is done with a chain.
+/// What is done with a chain.
 #[derive(Clone, Copy)]
 pub enum Task<'a> {
-    // Its samples are written to the file.
+    /// Its samples are written to the file.
     Play(&'a str),
-    // The calls in the file are made.
+    /// The calls in the file are made.
     Replay(&'a str),
-    // It is played so often, and timed.
+    /// It is played so often, and timed.
     Bench(u32),
 }
 
-// What the program is asked to do, with the names of its files.
+/// What the program is asked to do, with the names of its files.
 #[derive(Clone, Copy)]
 pub enum Command<'a> {
     Demonstrate,

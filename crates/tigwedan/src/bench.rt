@@ -4,7 +4,7 @@ use crate::playing::{ChainEnding, play_blocks};
 use player::player::Player;
 use samples::converter::ConverterSample;
 use samples::sample::Sample;
-use source::source::Source;
+use sources::source::Source;
 use std::io;
 use std::time::{Duration, Instant};
 

@@ -5,7 +5,7 @@ use comparison::whole::Whole;
 use player::player::Player;
 use samples::converter::ConverterSample;
 use samples::sample::Sample;
-use source::source::Source;
+use sources::source::Source;
 use std::alloc::{AllocError, Global};
 
 // The block sizes, in items.

@@ -7,9 +7,9 @@ use comparison::ending::AtItem;
 use recordings::layout::{Gains, Layout, Signal};
 use recordings::pair::Input;
 use recordings::recording::Recording;
-use source::fault::Ending;
-use source::source::Source;
-use wave::refusal::OpeningRefusal;
+use recordings::refusal::OpeningRefusal;
+use sources::fault::Ending;
+use sources::source::Source;
 
 // What a recording holds.
 #[derive(Clone, Copy)]

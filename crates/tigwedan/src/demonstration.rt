@@ -3,8 +3,6 @@ use crate::failure::Failure;
 use crate::replay;
 use crate::report::{Ends, Refused, USAGE};
 use comparison::ending::AtItem;
-use lines::entries::read_all;
-use lines::numbered::Numbered;
 use recorder::session::write;
 use recordings::layout::Signal;
 use recordings::pair::Input;
@@ -12,11 +10,13 @@ use recordings::recording::Recording;
 use samples::converter::ConverterSample;
 use samples::gain_index::GainIndex;
 use samples::sample::Sample;
-use settings_file::reader;
-use source::source::Source;
-use stages::held::Held;
+use sources::held::Held;
+use sources::source::Source;
 use std::io;
-use transcript::step::Step;
+use text::entries::read_all;
+use text::numbered::Numbered;
+use text::settings_file::reader;
+use text::transcript::step::Step;
 
 const RATE: u32 = 8000;
 

@@ -5,13 +5,13 @@ use crate::inputs::{bytes_of, steps_of};
 use crate::parts::Parts;
 use crate::playing::ChainEnding;
 use crate::{bench, blocks, play, replay};
+use chain::playing::standard_player;
 use comparison::ending::AtItem;
-use link::settings::Settings;
 use recordings::pair::LinkRecordings;
 use samples::converter::ConverterSample;
 use samples::gain_index::GainIndex;
-use source::source::Source;
-use standard::standard_player;
+use settings::settings::Settings;
+use sources::source::Source;
 
 // Makes the player, and answers how what it played ended. Generic in both sources, so that the player's type holds no lifetime
 // of a recording: the check does not follow several in one type.

@@ -2,13 +2,13 @@
 use crate::arguments::Inputs;
 use crate::failure::Failure;
 use crate::report::Refused;
-use lines::entries::read_all;
-use lines::numbered::Numbered;
-use link::settings::Settings;
 use recordings::pair::{Input, LinkRecordings};
-use settings_file::reader;
+use settings::settings::Settings;
 use std::fs;
-use transcript::step::Step;
+use text::entries::read_all;
+use text::numbered::Numbered;
+use text::settings_file::reader;
+use text::transcript::step::Step;
 
 pub(crate) fn bytes_of<'a>(rt: &HostRuntime, file: &'a str) -> Result<Vec<u8>, Failure<'a>> {
     fs::read(rt, file).map_err(|error| Failure::Reading(file, error))

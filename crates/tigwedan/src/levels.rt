@@ -6,7 +6,7 @@ const LOWEST: i16 = -2048;
 
 const HIGHEST: i16 = 2047;
 
-// What was seen of the samples: the greatest size of a part, and how many samples have a part at an end of the range.
+/// What was seen of the samples: the greatest size of a part, and how many samples have a part at an end of the range.
 #[derive(Clone, Copy, Default)]
 pub struct Levels {
     pub highest: u16,

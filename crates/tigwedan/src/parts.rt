@@ -4,12 +4,12 @@ use recorder::refusal::WritingRefusal;
 use recorder::session::{Part, record};
 use recorder::started::{HEADER, MAX_BYTES};
 use samples::converter::ConverterSample;
-use source::fault::Ending;
-use source::source::Source;
+use sources::fault::Ending;
+use sources::source::Source;
 use std::alloc::{AllocError, Global};
 use std::fs;
 
-// The most samples that fit a recording.
+/// The most samples that fit a recording.
 pub const MAX_SAMPLES: usize = (MAX_BYTES - HEADER) / 4;
 
 // After so many files a line on the errors tells how far it came.

@@ -9,7 +9,7 @@ use recorder::session::write;
 use recorder::started::MAX_BYTES;
 use samples::converter::ConverterSample;
 use samples::sample::Sample;
-use source::source::Source;
+use sources::source::Source;
 use std::io;
 
 // Writes the samples as the next file.

@@ -2,7 +2,7 @@
 use player::fault::PlayerFault;
 use player::player::Player;
 use samples::converter::ConverterSample;
-use source::source::Source;
+use sources::source::Source;
 
 // How a chain ends that is played: finished, or by the fault that the player met.
 pub(crate) type ChainEnding = Result<(), PlayerFault>;

@@ -1,13 +1,13 @@
 // The command `replay`: makes the calls of a file on one player, and prints what each answers.
 use crate::failure::Failure;
-use lines::numbered::Numbered;
-use link::settings::Settings;
+use chain::playing::standard_run;
 use samples::converter::ConverterSample;
 use samples::gain_index::GainIndex;
-use source::source::Source;
-use standard::standard_run;
-use transcript::answers::AnswerLines;
-use transcript::step::{Step, calls_of};
+use settings::settings::Settings;
+use sources::source::Source;
+use text::numbered::Numbered;
+use text::transcript::answers::AnswerLines;
+use text::transcript::step::{Step, calls_of};
 
 // Makes the calls on one player over the standard chain, and prints a line for each.
 pub(crate) fn replay<

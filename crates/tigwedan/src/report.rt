@@ -1,9 +1,9 @@
 // What the program prints about recordings.
+use recordings::refusal::OpeningRefusal;
 use std::fmt;
-use wave::refusal::OpeningRefusal;
 
-// How something ends, in the words of a summary: finished, or by what ended it.
-// Not the `Ends` of `comparison`, which has no `then`.
+/// How something ends, in the words of a summary: finished, or by what ended it.
+/// Not the `Ends` of `comparison`, which has no `then`.
 #[derive(Clone, Copy)]
 pub struct Ends<F>(pub Result<(), F>);
 
@@ -16,7 +16,7 @@ impl<F: fmt::Display> fmt::Display for Ends<F> {
     }
 }
 
-// Why a recording does not open, with its words.
+/// Why a recording does not open, with its words.
 #[derive(Clone, Copy, Debug)]
 pub struct Refused(pub OpeningRefusal);
 

@@ -1,7 +1,7 @@
 use Rattle.std.proofs.Common.{◌≡◌, ℕ, ◌<◌, cond, ltb, length, Some, None, ap, ◌∙◌, subst}
 use Rattle.std.specs.Result.{result_unwrap_or}
-use Rattle.source.specs.Streams.{Stream}
-use Rattle.stages.specs.Wholes.{each}
+use Rattle.sources.specs.Streams.{Stream}
+use Rattle.sources.specs.Wholes.{each}
 use Rattle.player.specs.Standing.{Stands}
 use Rattle.capi.specs.Playing.{parts}
 use Rattle.capi.proofs.Listening.{listened, buffer_told, mapped}

@@ -1,7 +1,7 @@
 use Rattle.std.proofs.Common.{◌≡◌, ℕ, ◌+◌, List, ◌++◌, length, take, drop, refl, ap, ◌∙◌, arith}
 use borrow.Rule.Slice.PartMut.{put_mid}
 use Rattle.std.proofs.lemmas.List.{drop-drop}
-use Rattle.wave.specs.Bytes.{overwrite}
+use Rattle.recordings.specs.Bytes.{overwrite}
 use Rattle.recorder.proofs.encoding.place.Goals as goal
 
 placed : (at n k : ℕ) (b xs ys : List ℕ) → ys ≡ xs → n ≡ length xs → k ≡ n → put_mid at k b ys ≡ overwrite at xs b

@@ -1,5 +1,5 @@
 use Rattle.std.proofs.Common.{◌≡◌, length, Some, None, Ok, Err, sym, ap, ◌∙◌, arith}
-use Rattle.source.specs.Streams.{answer}
+use Rattle.sources.specs.Streams.{answer}
 use Rattle.recorder.proofs.Filling.{goes, over}
 use Rattle.recorder.proofs.session.put_all.Goals as goal
 

@@ -1,19 +1,19 @@
 use Rattle.std.proofs.Common.{◌≡◌, ℕ, List, refl, ap, ◌∙◌, ap₂}
-use Rattle.impairments.specs.Levels.{quantized}
-use Rattle.impairments.specs.Multipath.{echoes, used, silence}
-use Rattle.impairments.specs.declared.balance.Balance.{Balance}
-use Rattle.impairments.specs.declared.gain.Gain.{Gain}
-use Rattle.impairments.specs.declared.offset.Offset.{Offset}
-use Rattle.impairments.specs.declared.paths.Paths.{Paths}
+use Rattle.stages.specs.Levels.{quantized}
+use Rattle.stages.specs.Multipath.{echoes, used, silence}
+use Rattle.stages.specs.declared.balance.Balance.{Balance}
+use Rattle.stages.specs.declared.gain.Gain.{Gain}
+use Rattle.stages.specs.declared.offset.Offset.{Offset}
+use Rattle.stages.specs.declared.paths.Paths.{Paths}
 use Rattle.samples.specs.declared.gain_index.GainIndex.{GainIndex}
 use Rattle.samples.specs.declared.kinds.AirSample.{AirSample}
 use Rattle.samples.specs.declared.kinds.WorkingSample.{WorkingSample}
-use Rattle.source.specs.Streams.{Stream}
+use Rattle.sources.specs.Streams.{Stream}
 use Rattle.stages.specs.Clock.{clocked, clock_step}
 use Rattle.stages.specs.Noise.{noise}
-use Rattle.stages.specs.Wholes.{each, remade, paired, led}
-use Rattle.turns.specs.Frequency.{frequency_offset}
-use Rattle.turns.specs.declared.frequency_offset.FrequencyOffset.{FrequencyOffset}
+use Rattle.sources.specs.Wholes.{each, remade, paired, led}
+use Rattle.stages.specs.Frequency.{frequency_offset}
+use Rattle.stages.specs.declared.frequency_offset.FrequencyOffset.{FrequencyOffset}
 use Rattle.chain.specs.Formulas.{working_offset, working_balanced, air_offset, air_balanced, amplified_unless, receive_gained, added, channel_gained, all_noise}
 use Rattle.chain.proofs.standard.Link.new.Goals as goal
 

@@ -1,6 +1,6 @@
 use Rattle.std.proofs.Common.{◌≡◌, ℕ, ◌-◌, ◌*◌, ◌^◌, ◌<◌, List, sym, ap, ◌∙◌, subst, arith}
 use Rattle.std.specs.Int.{w32, to_le_bytes}
-use Rattle.wave.specs.Bytes.{le32, overwrite}
+use Rattle.recordings.specs.Bytes.{le32, overwrite}
 use Rattle.recorder.specs.Writing.{size_of, sized, Finishes}
 use Rattle.recorder.proofs.Overwriting.{finishes}
 use Rattle.recorder.proofs.started.StartedRecording.finish.Goals as goal

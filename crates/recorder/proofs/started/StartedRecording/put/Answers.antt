@@ -1,5 +1,5 @@
 use Rattle.std.proofs.Common.{◌≡◌, ℕ, List, sym, ap, ◌∙◌, subst, arith}
-use Rattle.wave.specs.Bytes.{overwrite}
+use Rattle.recordings.specs.Bytes.{overwrite}
 use Rattle.recorder.specs.Writing.{coded, size_of, Adds}
 use Rattle.recorder.proofs.Overwriting.{adds}
 use Rattle.recorder.proofs.started.StartedRecording.put.Goals as goal

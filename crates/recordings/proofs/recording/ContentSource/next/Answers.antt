@@ -1,5 +1,5 @@
 use Rattle.std.proofs.Common.{◌≡◌, ℕ, ◌-◌, ◌/◌, length, take, drop, Ok, Err, sym, refl, ap, ◌∙◌, arith}
-use Rattle.wave.specs.declared.format.Format.{Format}
+use Rattle.recordings.specs.declared.format.Format.{Format}
 use Rattle.recordings.specs.Items.{left_of}
 use Rattle.recordings.proofs.Reading.{ends, gives, fails}
 use Rattle.recordings.proofs.recording.ContentSource.next.Goals as goal

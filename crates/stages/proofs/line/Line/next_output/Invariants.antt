@@ -1,6 +1,6 @@
 use Rattle.std.proofs.Common.{◌≡◌, ◌-◌, ◌/◌, ◌%◌, ◌^◌, ◌≤◌, length}
 use Rattle.stages.specs.Clock.{outputs_on}
-use Rattle.stages.specs.Wholes.{remade}
+use Rattle.sources.specs.Wholes.{remade}
 use Rattle.stages.proofs.line.Line.next_output.Given as goal
 
 -- what the line makes stays the same while items are drawn, one for each 2 ^ 53 that its position falls

@@ -1,6 +1,0 @@
-use Rattle.std.proofs.Common.{refl}
-use Rattle.impairments.proofs.Peeling.{ring_silent}
-use Rattle.impairments.proofs.multipath.Multipath.new.Goals as goal
-
-pub returns : goal.returns
-returns c = record { paths = refl; starts = ring_silent 0 }

@@ -1,4 +1,0 @@
-pub mod Passing
-pub mod Rows
-pub mod Splitting
-pub mod Words

@@ -1,6 +1,0 @@
-use Rattle.std.proofs.Common.{refl, rules}
-use Rattle.link.proofs.Accepted.{gain_made}
-use Rattle.link.proofs.checks.checked_gain.Goals as goal
-
-pub returns : goal.returns
-returns c = gain_made _ c.args.shift c.args.factor (search rules) refl

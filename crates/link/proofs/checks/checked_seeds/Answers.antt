@@ -1,6 +1,0 @@
-use Rattle.std.proofs.Common.{refl}
-use Rattle.link.proofs.Accepted.{seeds_made}
-use Rattle.link.proofs.checks.checked_seeds.Goals as goal
-
-pub returns : goal.returns
-returns c = seeds_made _ c.args.re c.args.im refl refl

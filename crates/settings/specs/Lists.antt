@@ -1,0 +1,84 @@
+-- The two settings that are lists: the paths, and the amplifier's table.
+use Rattle.std.specs.Prelude.{◌≡◌, ℕ, suc, ◌-◌, ◌≤◌, List, [], ◌∷◌, ◌++◌, length, replicate, ℤ, Result, refl}
+use Rattle.std.proofs.Common.{ap, arith, length-append}
+use Rattle.std.proofs.Math.Decide.{dec_le, ℕ_discrete}
+use Rattle.std.proofs.lemmas.List.{length-replicate}
+use Rattle.std.specs.List.{AllByRecursion}
+use Rattle.stages.specs.declared.entry.Entry.{Entry}
+use Rattle.stages.specs.declared.path.Path.{Path}
+use Rattle.stages.specs.declared.table.AmplifierTable.{AmplifierTable}
+use Rattle.stages.specs.declared.paths.Paths.{Paths}
+use Rattle.settings.specs.declared.paths.RawPath.{RawPath}
+use Rattle.settings.specs.declared.refusal.SettingRefusal.{SettingRefusal}
+use Rattle.settings.specs.declared.refusal.SettingRefusal.TheVariants.{PathOutside, EntryOutside}
+use Rattle.settings.specs.Decisions.{both, between, checked_both, each_checked}
+use Rattle.stages.specs.Multipath.{neutral_path}
+
+-- its delay is at most 63 samples
+abbrev pub Near : RawPath → Type 0
+Near p = p.delay ≤ 63
+
+-- the paths of these numbers
+abbrev pub paths_of : (ps : List RawPath) → AllByRecursion Near ps → List Path
+paths_of [] h = []
+paths_of (p ∷ ps) h = record { re = p.re; im = p.im; delay = p.delay; delay_within = h.0 } ∷ paths_of ps h.1
+
+-- as many as were given
+pub length-paths_of : (ps : List RawPath) (h : AllByRecursion Near ps) → length (paths_of ps h) ≡ length ps
+length-paths_of [] h = refl
+length-paths_of (p ∷ ps) h = ap suc (length-paths_of ps h.1)
+
+-- neutral paths behind, up to ten
+abbrev pub padded : List Path → List Path
+padded paths = paths ++ replicate (10 - length paths) neutral_path
+
+-- the lengths that the types ask
+pub length_padded : (ps : List Path) → length ps ≤ 10 → length (padded ps) ≡ 10
+length_padded ps h = simp (length-append, length-replicate) (omega arith)
+
+pub ten_places : (ps : List RawPath) (h : AllByRecursion Near ps) → length ps ≤ 10 → length (padded (paths_of ps h)) ≡ 10
+ten_places ps h n = length_padded (paths_of ps h) (omega (arith, length-paths_of ps h))
+
+-- 1 to 10 paths, else path 10 is refused; each delay at most 63, else the first path that has another is refused
+abbrev pub checked_paths : List RawPath → Result Paths SettingRefusal
+checked_paths ps =
+    checked_both
+    (between 1 (length ps) 10)
+    (PathOutside 10)
+    (each_checked (λ p. dec_le p.delay 63) PathOutside 0 ps)
+    (λ n h.
+    record {
+      places = padded (paths_of ps h);
+      count = length ps;
+      ten = ten_places ps h n.1;
+      low = n.0;
+      high = n.1;
+    })
+
+-- an amplitude is at most 32767
+abbrev pub Amplitude : ℕ → Type 0
+Amplitude a = a ≤ 32767
+
+-- entry by entry an amplitude and its phase
+abbrev pub entries_of : (amps : List ℕ) → List ℤ → AllByRecursion Amplitude amps → List Entry
+entries_of [] phases h = []
+entries_of (a ∷ amps) [] h = []
+entries_of (a ∷ amps) (p ∷ phases) h = record { amplitude = a; phase = p; amplitude_within = h.0 } ∷ entries_of amps phases h.1
+
+-- the lengths that the types ask
+pub length-entries_of : (amps : List ℕ) (phases : List ℤ) (h : AllByRecursion Amplitude amps) → length amps ≡ length phases → length (entries_of amps phases h) ≡ length amps
+length-entries_of [] phases h e = refl
+length-entries_of (a ∷ amps) [] h e = omega arith
+length-entries_of (a ∷ amps) (p ∷ phases) h e = ap suc (length-entries_of amps phases h.1 (omega arith))
+
+pub all_entries : (amps : List ℕ) (phases : List ℤ) (h : AllByRecursion Amplitude amps) → (length amps ≡ 513) × (length phases ≡ 513) → length (entries_of amps phases h) ≡ 513
+all_entries amps phases h e = omega (arith, length-entries_of amps phases h (omega (arith, e.0, e.1)), e.0)
+
+-- both lists 513 long, else entry 513 is refused; each amplitude at most 32767, else the first entry that has another is refused
+abbrev pub checked_table : List ℕ → List ℤ → Result AmplifierTable SettingRefusal
+checked_table amps phases =
+    checked_both
+    (both (ℕ_discrete (length amps) 513) (ℕ_discrete (length phases) 513))
+    (EntryOutside 513)
+    (each_checked (λ a. dec_le a 32767) EntryOutside 0 amps)
+    (λ n h. record { entries = entries_of amps phases h; all = all_entries amps phases h n })

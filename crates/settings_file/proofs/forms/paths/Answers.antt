@@ -1,8 +1,0 @@
-use Rattle.std.proofs.Common.{refl, arith}
-use Rattle.lines.proofs.Rows.{exit}
-use mathlib.Core.Logic.{inl}
-use Rattle.settings_file.proofs.Rows.{paths_begin}
-use Rattle.settings_file.proofs.forms.paths.Goals as goal
-
-pub returns-in_err-push : goal.returns-in_err-push
-returns-in_err-push c = exit _ _ _ _ c.from_residual-in_err-push.ensures.1 (inl (refl, paths_begin _ c.in_ok-rows.rows.items c.in_ok-rows.ensures (omega (arith, c.loop-row-test.true, c.deref-row-items.ensures.len))))

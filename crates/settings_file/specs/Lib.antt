@@ -1,4 +1,0 @@
-pub mod Files
-pub mod Forms
-pub mod Messages
-pub mod Settings

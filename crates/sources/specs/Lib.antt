@@ -1,0 +1,5 @@
+pub mod Faults
+pub mod Meanings
+pub mod Places
+pub mod Streams
+pub mod Wholes

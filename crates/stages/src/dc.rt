@@ -1,0 +1,42 @@
+// DC offset: a constant added to every sample, of any kind.
+ghost use Rattle.std.specs.Prelude.{◌≡◌};
+ghost use Rattle.stages.specs.Levels.{offset_by};
+
+use crate::offset::Offset;
+use samples::sample::Sample;
+use sources::each::Mapping;
+use std::marker::PhantomData;
+
+/// The offset added to each sample of kind K, which stands in the type: a mapping has one kind of item.
+#[derive(Drop)]
+pub struct DcOffset<K> {
+    offset: Offset,
+    kind: PhantomData<K>,
+}
+
+impl<K: Sample> DcOffset<K> {
+    /// Adds this offset to each part.
+    pub fn new(offset: Offset) -> Self
+        ensures { result.offset ≡ offset }
+    {
+        DcOffset {
+            offset,
+            kind: PhantomData,
+        }
+    }
+}
+
+impl<K: Sample> Mapping for DcOffset<K> {
+    type From = K;
+
+    type To = K;
+
+    ghost formula = { λ s x. offset_by K.Sample.sample s.offset (K.Sample.real x) (K.Sample.imaginary x) };
+
+    #[inline(always)]
+    fn apply(&self, x: K) -> K {
+        let re = i64::from(x.re()) + i64::from(self.offset.re);
+        let im = i64::from(x.im()) + i64::from(self.offset.im);
+        K::new(re, im)
+    }
+}

@@ -1,0 +1,14 @@
+pub mod Answers
+pub mod Entries
+pub mod Faults
+pub mod Files
+pub mod Forms
+pub mod Lines
+pub mod Messages
+pub mod Numbers
+pub mod Reading
+pub mod SettingMessages
+pub mod Settings
+pub mod Steps
+pub mod Taking
+pub mod Words

@@ -1,2 +1,0 @@
-pub mod Interpolations
-pub mod PhaseSteps

@@ -1,3 +1,0 @@
-pub mod Amplifier
-pub mod Frequency
-pub mod Turns
