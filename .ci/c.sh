@@ -63,7 +63,7 @@ fi
 echo "c: $(grep -c '^>' .ci/calls.txt) calls as they must be"
 
 compile play examples/play.c
-run=crates/chains/data/13_everything
+run=crates/compared/data/13_everything
 printf '%s\n' "$run.signal.wav: rate 2000000, 1200 samples" 'played 1201 samples, finished' >"$room/wanted"
 {
     "$room/play" $run.signal.wav $run.gain.wav $run.settings.txt "$room/played.wav" >"$room/said" &&

@@ -36,7 +36,7 @@ cat >"$room/finished" <<'END'
 #![tactic(auto)]
 
 use recorder::started::StartedRecording;
-use samples::converter::ConverterSample;
+use samples::kinds::ConverterSample;
 
 fn finish(recording: StartedRecording, bytes: &mut [u8]) -> usize {
     match recording.finish(bytes) {

@@ -75,7 +75,7 @@ struct tigwedan_sample {
 };
 
 /* Opens the bytes as a recording of this kind, and reads it to its end. The report has the rate, the number of items
- * before the first that is spoilt, and its fault. */
+ * before the first that is faulty, and its fault. */
 uint32_t tigwedan_open(uint32_t kind, const uint8_t *bytes, size_t bytes_length, struct tigwedan_report *report);
 
 /* Plays the standard chain over a signal recording (input 0) and a gain recording (input 1), from its start until `out`

@@ -1,4 +1,4 @@
-mod Listening
-mod Settling
+mod PlayingInto
+mod SettingsText
 mod Handing
 mod Wanting

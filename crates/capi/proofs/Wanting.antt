@@ -1,4 +1,4 @@
--- Want of memory is told only where a text has an entry.
+-- Out of memory is reported only where a text has an entry.
 use Rattle.std.proofs.Common.{◌≡◌, ◌≢◌, ℕ, List, [], Result, Ok, Err, refl, sym, ◌∙◌, subst}
 use Rattle.std.specs.List.{AllZip}
 use Rattle.text.specs.Entries.{Holds, entries_of}
@@ -9,11 +9,11 @@ use Rattle.text.specs.Steps.{Says}
 use Rattle.text.specs.declared.transcript.step.Step.{Step}
 use Rattle.capi.specs.declared.refusal.Refusal.{Refusal}
 use Rattle.capi.specs.declared.refusal.Refusal.TheVariants.{Memory}
-use Rattle.capi.specs.declared.written.Transcript.{Transcript}
+use Rattle.capi.specs.declared.replaying.Transcript.{Transcript}
 use Rattle.capi.specs.Playing.{BothOpened}
 use Rattle.capi.specs.Replaying.{Replayed, Tells, TellsOpened, TellsSteps}
 use Rattle.capi.specs.Texts.{SaysSteps, Settles}
-use Rattle.capi.proofs.Settling.{no_entry, none_said}
+use Rattle.capi.proofs.SettingsText.{no_entry, none_said}
 
 of_no_steps : (s : Settings) (opened : BothOpened) (t : Result Transcript Refusal) → TellsOpened s [] opened t → t ≢ Err Memory
 of_no_steps s (Err (which, e)) t tells is = cc

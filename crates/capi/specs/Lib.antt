@@ -1,5 +1,5 @@
 pub mod Reports
-pub mod Hearing
+pub mod Outcomes
 pub mod Playing
 pub mod Replaying
 pub mod Texts

@@ -1,6 +1,6 @@
 -- The standard chain, played over two recordings.
 use Rattle.std.specs.Prelude.{◌≡◌, ℕ, List, length, Ok, Err, Result}
-use Rattle.samples.specs.declared.converter.ConverterSample.{ConverterSample}
+use Rattle.samples.specs.declared.kinds.ConverterSample.{ConverterSample}
 use Rattle.samples.specs.declared.gain_index.GainIndex.{GainIndex}
 use Rattle.sources.specs.Streams.{Stream}
 use Rattle.sources.specs.Wholes.{each}
@@ -12,10 +12,10 @@ use Rattle.recordings.specs.Opening.{Opened}
 use Rattle.recordings.specs.Pair.{link_opening}
 use Rattle.recordings.specs.declared.pair.Input as pair
 use Rattle.capi.specs.declared.refusal.Refusal.{Refusal}
-use Rattle.capi.specs.declared.iq.Iq.{Iq}
+use Rattle.capi.specs.declared.outcome.Iq.{Iq}
 use Rattle.capi.specs.declared.report.Report.{Report}
-use Rattle.capi.specs.Hearing.{heard_of}
-use Rattle.capi.specs.Reports.{heard_report, opening_of, status, told}
+use Rattle.capi.specs.Outcomes.{outcome_of}
+use Rattle.capi.specs.Reports.{outcome_report, opening_of, status, report_of}
 use Rattle.capi.specs.Texts.{Settles}
 
 -- the two parts of a sample
@@ -33,7 +33,7 @@ BothOpened = Result (Opened ConverterSample × Opened GainIndex) (pair.Input × 
 -- n samples of the chain over both are wanted
 abbrev pub play_opened : Settings → BothOpened → ℕ → Result Report Refusal
 play_opened s (Err refused) n = Err (opening_of refused)
-play_opened s (Ok both) n = Ok (heard_report both.0.rate (heard_of n (played s both.0.whole both.1.whole)))
+play_opened s (Ok both) n = Ok (outcome_report both.0.rate (outcome_of n (played s both.0.whole both.1.whole)))
 
 -- the buffer then; where a recording does not open, it is as it was
 abbrev pub after_opened : Settings → BothOpened → List Iq → List Iq
@@ -54,5 +54,5 @@ pub record PlaysChain (text signal gain : List ℕ) (out after : List Iq) (repor
   pub settings : Result Settings Refusal
   pub settled : Settles text settings
   pub status_is : answer ≡ status (play_answer settings signal gain (length out))
-  pub report_is : report ≡ told (play_answer settings signal gain (length out))
+  pub report_is : report ≡ report_of (play_answer settings signal gain (length out))
   pub buffer_is : after ≡ after_play settings signal gain out

@@ -1,6 +1,6 @@
 -- A text of answers, put into the caller's buffer.
 use Rattle.std.specs.Prelude.{◌≡◌, ◌≢◌, ℕ, cond, List, [], length, None, Ok, Err, string_bytes, Result, nat_le}
-use Rattle.samples.specs.declared.converter.ConverterSample.{ConverterSample}
+use Rattle.samples.specs.declared.kinds.ConverterSample.{ConverterSample}
 use Rattle.sources.specs.Streams.{Stream}
 use Rattle.settings.specs.declared.settings.Settings.{Settings}
 use Rattle.chain.specs.Chains.{played}
@@ -15,16 +15,16 @@ use Rattle.recordings.specs.Pair.{link_opening}
 use Rattle.capi.specs.declared.refusal.Refusal.{Refusal}
 use Rattle.capi.specs.declared.refusal.Refusal.TheVariants.{Memory, Room}
 use Rattle.capi.specs.declared.report.Report.{Report}
-use Rattle.capi.specs.declared.written.Transcript.{Transcript}
+use Rattle.capi.specs.declared.replaying.Transcript.{Transcript}
 use Rattle.capi.specs.Playing.{BothOpened}
-use Rattle.capi.specs.Reports.{items_report, opening_of, status, told}
+use Rattle.capi.specs.Reports.{items_report, opening_of, status, report_of}
 use Rattle.capi.specs.Texts.{SaysSteps, Settles}
 
--- the lines that tell what the plain player of a whole answers to the steps
+-- the lines of what the plain player of a whole answers to the steps
 abbrev pub run_text : Stream ConverterSample → List (Numbered Step) → List ℕ
 run_text w steps = answer_lines steps (plain_run w 0 (asked_by steps))
 
--- these bytes tell the steps, and are written, at the rate; or there was no memory for them; where there are no steps, none is needed
+-- these bytes say the steps, and are written, at the rate; or there was no memory for them; where there are no steps, none is needed
 abbrev pub Writes : List (Numbered Step) → ℕ → List ℕ → Result Transcript Refusal → Type 0
 Writes steps rate text (Ok t) = (t.rate ≡ rate) × (string_bytes t.text ≡ text)
 Writes steps rate text (Err e) = (e ≡ Memory) × (steps ≢ [])
@@ -44,8 +44,8 @@ abbrev pub Tells : Result Settings Refusal → List ℕ → List ℕ → List �
 Tells (Err e) calls signal gain t = t ≡ Err e
 Tells (Ok s) calls signal gain t = (steps : Result (List (Numbered Step)) Refusal) × SaysSteps calls steps × TellsSteps s steps signal gain t
 
--- What the calls of one text tell, on the chain that the settings of another make: settings are tested first, then calls, then
--- the signal, then the gain recording. Want of memory is told only where one of the texts has an entry.
+-- What the calls of one text answer, on the chain that the settings of another make: settings are tested first, then calls, then
+-- the signal, then the gain recording. Out of memory is reported only where one of the texts has an entry.
 pub record Replayed (settings calls signal gain : List ℕ) (transcript : Result Transcript Refusal) : Type 0 where
   pub made : Result Settings Refusal
   pub settled : Settles settings made
@@ -79,5 +79,5 @@ pub record Replays (settings calls signal gain out after : List ℕ) (report : R
   pub transcript : Result Transcript Refusal
   pub replayed : Replayed settings calls signal gain transcript
   pub status_is : answer ≡ status (replay_answer transcript (length out))
-  pub report_is : report ≡ told (replay_answer transcript (length out))
+  pub report_is : report ≡ report_of (replay_answer transcript (length out))
   pub buffer_is : after ≡ after_replay transcript out

@@ -1,4 +1,4 @@
--- Statuses and reports: which number each refusal has, and what the report tells.
+-- Statuses and reports: which number each refusal has, and what the report says.
 use Rattle.std.specs.Prelude.{ℕ, Some, None, Ok, Err, Option, Result}
 use Rattle.sources.specs.Faults.{fault_number}
 use Rattle.settings.specs.Refusals.{setting_number}
@@ -10,7 +10,7 @@ use Rattle.capi.specs.declared.refusal.Input.{Input}
 use Rattle.capi.specs.declared.refusal.Input.TheVariants.{Recording, Settings, Calls}
 use Rattle.capi.specs.declared.refusal.Refusal.{Refusal}
 use Rattle.capi.specs.declared.refusal.Refusal.TheVariants.{Opening, Setting, UnknownKind, WrongLine, Memory, Room}
-use Rattle.capi.specs.declared.report.Heard.{Heard}
+use Rattle.capi.specs.declared.outcome.Outcome.{Outcome}
 use Rattle.capi.specs.declared.report.Report.{Report}
 use Rattle.sources.specs.Streams.{Ending}
 
@@ -24,7 +24,7 @@ input_number Calls = 257
 abbrev pub opening_of : pair.Input × OpeningRefusal → Refusal
 opening_of (which, e) = Opening which e
 
--- the status that tells a refusal
+-- the status of a refusal
 abbrev pub refusal_number : Refusal → ℕ
 refusal_number (Opening which e) = opening_number e
 refusal_number (Setting line e) = setting_number e
@@ -55,8 +55,8 @@ items_report rate n None = record { rate = rate; ended = 0; fault = 0; input = 0
 items_report rate n (Some (Ok _)) = record { rate = rate; ended = 1; fault = 0; input = 0; items = n; item = 0; place = 0 }
 items_report rate n (Some (Err f)) = record { rate = rate; ended = 1; fault = fault_number f.kind; input = f.input; items = n; item = f.item; place = 0 }
 
-abbrev pub heard_report : ℕ → Heard → Report
-heard_report rate heard = items_report rate heard.items heard.ending
+abbrev pub outcome_report : ℕ → Outcome → Report
+outcome_report rate outcome = items_report rate outcome.items outcome.ending
 
 -- the status of an answer: 0, or the refusal's number
 abbrev pub status : Result Report Refusal → ℕ
@@ -64,6 +64,6 @@ status (Ok report) = 0
 status (Err e) = refusal_number e
 
 -- the report of an answer
-abbrev pub told : Result Report Refusal → Report
-told (Ok report) = report
-told (Err e) = refusal_report e
+abbrev pub report_of : Result Report Refusal → Report
+report_of (Ok report) = report
+report_of (Err e) = refusal_report e

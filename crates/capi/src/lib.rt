@@ -6,12 +6,10 @@
 // the line of each call that a text says, with its answer.
 #![tactic(auto)]
 
-mod hearing;
-pub mod iq;
 pub mod opening;
+pub mod outcome;
 pub mod playing;
 pub mod refusal;
 pub mod replaying;
 pub mod report;
 mod texts;
-mod written;

@@ -2,10 +2,10 @@
 ghost use Rattle.std.specs.Prelude.{◌≡◌};
 ghost use Rattle.recordings.specs.Opening.{opening};
 ghost use Rattle.recordings.specs.Pair.{input_number};
-ghost use Rattle.capi.specs.Hearing.{examined, open_answer};
-ghost use Rattle.capi.specs.Reports.{status, told};
+ghost use Rattle.capi.specs.Outcomes.{examined, open_answer};
+ghost use Rattle.capi.specs.Reports.{status, report_of};
 
-use crate::hearing::count;
+use crate::outcome::count;
 use crate::refusal::{Refusal, conclude};
 use crate::report::Report;
 use recordings::layout::{Gains, Layout, Signal};
@@ -20,7 +20,7 @@ fn examine<'a, L: Layout>(bytes: &'a [u8], input: Input) -> Result<Report, Refus
         |refusal| Refusal::Opening(input, refusal),
     )?;
     let rate = recording.rate();
-    Ok(Report::heard(rate, count(recording)))
+    Ok(Report::outcome(rate, count(recording)))
 }
 
 // The kinds have the numbers of their inputs. Numbers throughout: C has no enums of ours.
@@ -35,12 +35,12 @@ fn open(kind: u32, bytes: &[u8]) -> Result<Report, Refusal>
 }
 
 /// Opens the bytes as a signal recording (kind 0) or a gain recording (kind 1), and reads it to its end. The report has the
-/// rate, the number of items before the first that is spoilt, and its fault. Refused for an unknown kind (64), and for
+/// rate, the number of items before the first that is faulty, and its fault. Refused for an unknown kind (64), and for
 /// bytes that do not open (8 to 11, with the byte's place).
 #[unsafe(no_mangle)]
 pub extern "C" fn tigwedan_open(kind: u32, bytes: &[u8], report: &mut Report) -> u32
     ensures status { result ≡ status (open_answer kind bytes.now) }
-    ensures report { report.new ≡ told (open_answer kind bytes.now) }
+    ensures report { report.new ≡ report_of (open_answer kind bytes.now) }
 {
     conclude(open(kind, bytes), report)
 }

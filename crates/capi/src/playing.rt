@@ -2,18 +2,17 @@
 ghost use Rattle.std.specs.Prelude.{◌≡◌, length};
 ghost use Rattle.chain.specs.Chains.{played};
 ghost use Rattle.recordings.specs.Pair.{link_opening};
-ghost use Rattle.capi.specs.Hearing.{heard_of};
+ghost use Rattle.capi.specs.Outcomes.{outcome_of};
 ghost use Rattle.capi.specs.Playing.{filled_from, play_opened, after_opened, play_answer, after_play, PlaysChain};
 
-use crate::hearing::listen;
-use crate::iq::Iq;
+use crate::outcome::{Iq, Outcome, play_into};
 use crate::refusal::{Refusal, conclude};
-use crate::report::{Heard, Report};
+use crate::report::Report;
 use crate::texts::settings_of;
 use chain::standard::standard_chain;
 use recordings::pair::LinkRecordings;
-use samples::converter::ConverterSample;
 use samples::gain_index::GainIndex;
+use samples::kinds::ConverterSample;
 use settings::settings::Settings;
 use sources::source::Source;
 use std::alloc::Global;
@@ -24,14 +23,14 @@ fn play_chain<S: Source<Item = ConverterSample> + Drop, G: Source<Item = GainInd
     signal: S,
     indices: G,
     out: &mut [Iq],
-) -> Heard
-    ensures heard { let w = played settings.now (S.Source.whole signal) (G.Source.whole indices) in
-        result ≡ heard_of (length out.old) w }
-    ensures after { let w = played settings.now (S.Source.whole signal) (G.Source.whole indices) in
+) -> Outcome
+    ensures outcome { let w = played settings.now (S.whole signal) (G.whole indices) in
+        result ≡ outcome_of (length out.old) w }
+    ensures after { let w = played settings.now (S.whole signal) (G.whole indices) in
         out.new ≡ filled_from w out.old }
 {
     let chain = standard_chain(settings, signal, indices);
-    listen(chain, out)
+    play_into(chain, out)
 }
 
 // Opens both recordings and plays the chain over them.
@@ -43,12 +42,13 @@ fn play_recordings(
 ) -> Result<Report, Refusal>
     ensures answer { let opened = link_opening signal.now gain.now in
         result ≡ play_opened settings.now opened (length out.old) }
-    ensures buffer { out.new ≡ after_opened settings.now (link_opening signal.now gain.now) out.old }
+    ensures buffer { out.new
+        ≡ after_opened settings.now (link_opening signal.now gain.now) out.old }
 {
     let LinkRecordings { signal, gain } = LinkRecordings::open(signal, gain)?;
     let rate = signal.rate();
-    let heard = play_chain(settings, signal, gain, out);
-    Ok(Report::heard(rate, heard))
+    let outcome = play_chain(settings, signal, gain, out);
+    Ok(Report::outcome(rate, outcome))
 }
 
 // Plays with the settings that were read; settings that are refused play nothing.
@@ -66,7 +66,7 @@ fn play(
 
 /// Plays the standard chain over a signal and a gain recording, with the settings of the text, from its start until the
 /// buffer is full or the chain ends. The report has the signal's rate, how many samples came, and the ending if it is met.
-/// Refused for the first line of the settings that is wrong (65) or refused (1 to 7, 13), for want of memory (66), and for
+/// Refused for the first line of the settings that is wrong (65) or refused (1 to 7, 13), where memory runs out (66), and for
 /// bytes that do not open (8 to 11), the signal's before the gain's; the buffer then stays as it was.
 #[unsafe(no_mangle)]
 pub extern "C" fn tigwedan_play(

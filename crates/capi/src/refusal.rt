@@ -1,7 +1,7 @@
 // Why a call is refused.
 ghost use Rattle.std.specs.Prelude.{◌≡◌};
 ghost use Rattle.capi.specs.declared.refusal.Refusal.TheVariants.{Memory};
-ghost use Rattle.capi.specs.Reports.{input_number, opening_of, refusal_number, refusal_report, status, told};
+ghost use Rattle.capi.specs.Reports.{input_number, opening_of, refusal_number, refusal_report, status, report_of};
 
 use crate::report::Report;
 use recordings::pair;
@@ -55,7 +55,7 @@ pub enum Refusal {
 const NO_INPUT: u32 = 0;
 
 impl Refusal {
-    /// The status that tells it: 1 to 13 of a setting or a recording, 64 to 67 of the call itself.
+    /// Its status: 1 to 13 of a setting or a recording, 64 to 67 of the call itself.
     pub fn number(self) -> u32
         ensures { result ≡ refusal_number self }
     {
@@ -107,7 +107,7 @@ impl From<AllocError> for Refusal {
 // Puts the report where the caller wants it, and answers the status.
 pub(crate) fn conclude(answer: Result<Report, Refusal>, report: &mut Report) -> u32
     ensures status { result ≡ status answer }
-    ensures report { report.new ≡ told answer }
+    ensures report { report.new ≡ report_of answer }
 {
     match answer {
         Ok(done) => {

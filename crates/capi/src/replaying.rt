@@ -5,14 +5,14 @@ ghost use Rattle.recordings.specs.Pair.{link_opening};
 ghost use Rattle.capi.specs.Replaying.{run_text, TellsOpened, Replayed, put_answer, after_put, replay_answer, after_replay, Replays};
 ghost use Rattle.capi.specs.Texts.{SaysSteps};
 
+use crate::outcome::Outcome;
 use crate::refusal::{Input, Refusal, conclude};
-use crate::report::{Heard, Report};
+use crate::report::Report;
 use crate::texts::{refusal_of, settings_of};
-use crate::written::Transcript;
 use chain::playing::standard_run;
 use recordings::pair::LinkRecordings;
-use samples::converter::ConverterSample;
 use samples::gain_index::GainIndex;
+use samples::kinds::ConverterSample;
 use settings::settings::Settings;
 use sources::source::Source;
 use std::alloc::{AllocError, Global};
@@ -21,6 +21,15 @@ use text::numbered::Numbered;
 use text::settings_file::fault::LineFault;
 use text::transcript::answers::AnswerLines;
 use text::transcript::step::{Step, calls_of};
+
+/// A line for each answer, and the rate of the signal in samples a second.
+#[derive(Drop)]
+pub struct Transcript {
+    /// Samples a second, of the signal.
+    pub rate: u32,
+    /// A line for each call.
+    pub text: String,
+}
 
 // Makes the calls on one player over the chain: a line for each answer. Where there are no calls, no memory is taken.
 fn replay_chain<S: Source<Item = ConverterSample> + Drop, G: Source<Item = GainIndex> + Drop>(
@@ -106,12 +115,12 @@ fn deliver(transcript: Result<Transcript, Refusal>, out: &mut [u8]) -> Result<Re
     let Transcript { rate, text } = transcript?;
     let items = put(text.as_bytes(), out)?;
     let ending = None;
-    Ok(Report::heard(rate, Heard { items, ending }))
+    Ok(Report::outcome(rate, Outcome { items, ending }))
 }
 
 /// Makes the calls of the text on one player over the standard chain, and writes a line for each answer. The report has the
 /// signal's rate and how many bytes were written. Refused for the first wrong line of the settings or the calls (65), a
-/// setting out of its range (1 to 7, 13), for want of memory (66), for bytes that do not open (8 to 11), and for a buffer
+/// setting out of its range (1 to 7, 13), where memory runs out (66), for bytes that do not open (8 to 11), and for a buffer
 /// that is too short for all lines (67, with the bytes that it needs); the buffer then stays as it was.
 #[unsafe(no_mangle)]
 pub extern "C" fn tigwedan_replay(

@@ -1,11 +1,11 @@
-// What a call tells beside its status.
+// What a call reports beside its status.
 ghost use Rattle.std.specs.Prelude.{◌≡◌};
-ghost use Rattle.capi.specs.Reports.{heard_report, refused_report};
+ghost use Rattle.capi.specs.Reports.{outcome_report, refused_report};
 
-use sources::fault::Ending;
+use crate::outcome::Outcome;
 
-/// What a call tells beside its status, with the fields of `struct tigwedan_report` in their order. Fields that a call has
-/// nothing to tell of are 0. Numbers throughout: C has no enums of ours.
+/// What a call reports beside its status, with the fields of `struct tigwedan_report` in their order. Fields that a call has
+/// nothing to report are 0. Numbers throughout: C has no enums of ours.
 #[repr(C)]
 #[derive(Clone, Copy)]
 pub struct Report {
@@ -25,16 +25,7 @@ pub struct Report {
     pub place: u64,
 }
 
-/// How many items came, and how the items end, if the end was met.
-#[derive(Clone, Copy)]
-pub struct Heard {
-    /// How many items came.
-    pub items: u64,
-    /// How they end; none if no more items were wanted than came.
-    pub ending: Option<Ending>,
-}
-
-// A report that tells nothing.
+// A report of nothing.
 const NOTHING: Report = Report {
     rate: 0,
     ended: 0,
@@ -46,15 +37,15 @@ const NOTHING: Report = Report {
 };
 
 impl Report {
-    pub(crate) fn heard(rate: u32, heard: Heard) -> Report
-        ensures { result ≡ heard_report rate heard }
+    pub(crate) fn outcome(rate: u32, outcome: Outcome) -> Report
+        ensures { result ≡ outcome_report rate outcome }
     {
         let report = Report {
             rate,
-            items: heard.items,
+            items: outcome.items,
             ..NOTHING
         };
-        match heard.ending {
+        match outcome.ending {
             None => report,
             Some(Ok(())) => Report { ended: 1, ..report },
             Some(Err(fault)) => Report {

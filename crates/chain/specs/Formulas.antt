@@ -5,13 +5,15 @@ use Rattle.samples.specs.declared.gain_index.GainIndex.{GainIndex}
 use Rattle.samples.specs.declared.kinds.AirSample.{AirSample}
 use Rattle.samples.specs.declared.kinds.WorkingSample.{WorkingSample}
 use Rattle.sources.specs.Streams.{Stream}
-use Rattle.stages.specs.Noise.{noise}
-use Rattle.stages.specs.Levels.{offset_by, balanced, gained, chosen, summed}
-use Rattle.stages.specs.declared.balance.Balance.{Balance}
+use Rattle.stages.specs.Noise.{noise, summed}
+use Rattle.stages.specs.DcOffset.{offset_by}
+use Rattle.stages.specs.Gain.{gained, chosen}
+use Rattle.stages.specs.Imbalance.{balanced}
+use Rattle.stages.specs.declared.imbalance.Balance.{Balance}
 use Rattle.stages.specs.declared.gain.Gain.{Gain}
-use Rattle.stages.specs.declared.offset.Offset.{Offset}
+use Rattle.stages.specs.declared.dc_offset.Offset.{Offset}
 use Rattle.stages.specs.Amplifier.{amplified}
-use Rattle.stages.specs.declared.table.AmplifierTable.{AmplifierTable}
+use Rattle.stages.specs.declared.amplifier.AmplifierTable.{AmplifierTable}
 
 -- DC offset and imbalance at 16 bits, which the transmitter has
 abbrev pub working_offset : Offset → WorkingSample → WorkingSample

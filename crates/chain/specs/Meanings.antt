@@ -1,15 +1,16 @@
 -- What the chain means by its whole and its left, from its own state and from what the sources below mean.
-use Rattle.samples.specs.declared.converter.ConverterSample.{ConverterSample}
+use Rattle.samples.specs.declared.kinds.ConverterSample.{ConverterSample}
 use Rattle.samples.specs.declared.gain_index.GainIndex.{GainIndex}
 use Rattle.samples.specs.declared.kinds.WorkingSample.{WorkingSample}
 use Rattle.sources.specs.Streams.{Stream}
 use Rattle.sources.specs.Meanings.{each_whole, each_left, scan_whole, scan_left, pairing_whole, pairing_left, lead_whole, lead_left}
 use Rattle.stages.specs.Meanings.{clock_whole, clock_left, noise_whole, noise_left}
-use Rattle.stages.specs.Levels.{scaled, quantized}
+use Rattle.stages.specs.Converter.{quantized}
+use Rattle.stages.specs.Scaling.{scaled}
 use Rattle.stages.specs.Multipath.{echoes, used, silence, ring}
 use Rattle.stages.specs.declared.scaling.Scaling.{Scaling}
 use Rattle.sources.specs.declared.each.Each.{Each}
-use Rattle.stages.specs.Frequency.{frequency_offset}
+use Rattle.stages.specs.FrequencyOffset.{frequency_offset}
 use Rattle.chain.specs.Formulas.{working_offset, working_balanced, air_offset, air_balanced, amplified_unless, channel_gained, added, receive_gained}
 use Rattle.chain.specs.declared.standard.Link.{Link}
 

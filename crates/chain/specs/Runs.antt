@@ -1,6 +1,6 @@
 -- The law of runs, in the words of the settings and of what the two sources are.
 use Rattle.std.specs.Prelude.{Vec}
-use Rattle.samples.specs.declared.converter.ConverterSample.{ConverterSample}
+use Rattle.samples.specs.declared.kinds.ConverterSample.{ConverterSample}
 use Rattle.samples.specs.declared.gain_index.GainIndex.{GainIndex}
 use Rattle.sources.specs.Streams.{Stream}
 use Rattle.settings.specs.declared.settings.Settings.{Settings}

@@ -12,15 +12,15 @@ use crate::standard::{StandardChain, standard_chain};
 use player::calls::{Answer, Call};
 use player::player::Player;
 use player::run::run;
-use samples::converter::ConverterSample;
 use samples::gain_index::GainIndex;
+use samples::kinds::ConverterSample;
 use settings::settings::Settings;
 use sources::source::Source;
 use std::alloc::{AllocError, Global};
 
 /// A player at the start of the standard chain. Whatever calls are then made of it, in any order and with any arguments: what
 /// comes out at place k is item k of the whole that the formulas make of the settings, the signal and its gain indices, and
-/// that whole's end or fault is told exactly where items are wanted and none is left.
+/// that whole's end or fault is reported exactly where items are wanted and none is left.
 pub fn standard_player<S: Source<Item = ConverterSample>, G: Source<Item = GainIndex>>(
     settings: &Settings,
     signal: S,
@@ -33,8 +33,8 @@ pub fn standard_player<S: Source<Item = ConverterSample>, G: Source<Item = GainI
     Player::new(start)
 }
 
-/// Carries out the calls on a player of the standard chain, and hands back each answer with each buffer. Want of memory is
-/// told only where there are calls.
+/// Carries out the calls on a player of the standard chain, and hands back each answer with each buffer. Out of memory is
+/// reported only where there are calls.
 pub fn standard_run<S: Source<Item = ConverterSample> + Drop, G: Source<Item = GainIndex> + Drop>(
     heap: Global,
     settings: &Settings,

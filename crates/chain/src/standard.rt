@@ -1,11 +1,11 @@
 // The standard chain, whole.
 ghost use Rattle.std.specs.Prelude.{◌≡◌};
 ghost use Rattle.chain.specs.Chains.{linked, played};
+ghost use Rattle.sources.specs.Streams.{AtStart};
 ghost use Rattle.chain.specs.Meanings.{link_whole, link_left, chain_whole, chain_left};
 
-use samples::converter::ConverterSample;
 use samples::gain_index::GainIndex;
-use samples::kinds::{AirSample, WorkingSample};
+use samples::kinds::{AirSample, ConverterSample, WorkingSample};
 use settings::settings::Settings;
 use sources::each::Each;
 use sources::fault::Fault;
@@ -13,16 +13,15 @@ use sources::lead::Lead;
 use sources::pairing::Pairing;
 use sources::scan::Scan;
 use sources::source::Source;
-use stages::adding::Adding;
 use stages::amplifier::Amplifier;
-use stages::clock::Clock;
+use stages::clock_offset::Clock;
 use stages::converter::Quantizer;
-use stages::dc::DcOffset;
-use stages::frequency::Rotator;
-use stages::gains::{FixedGain, ReceiveGain};
+use stages::dc_offset::DcOffset;
+use stages::frequency_offset::Rotator;
+use stages::gain::{FixedGain, ReceiveGain};
 use stages::imbalance::Imbalance;
 use stages::multipath::Multipath;
-use stages::noise::Noise;
+use stages::noise::{Adding, Noise};
 use stages::scaling::Scaling;
 
 // How many items of noise there are.
@@ -62,8 +61,9 @@ pub struct Link<S: Source<Item = WorkingSample>, G: Source<Item = GainIndex>> {
 impl<S: Source<Item = WorkingSample>, G: Source<Item = GainIndex>> Link<S, G> {
     /// The chain with these settings, at its start. They are fixed here: later changes of them do not reach the chain.
     pub fn new(settings: &Settings, signal: S, indices: G) -> Self
-        ensures whole { link_whole S.Source.whole G.Source.whole result ≡ linked settings.now (S.Source.whole signal) (G.Source.whole indices) }
-        ensures left { link_left S.Source.left G.Source.left result ≡ linked settings.now (S.Source.whole signal) (G.Source.whole indices) }
+        ensures { AtStart (link_whole S.Source.whole G.Source.whole result)
+            (link_left S.Source.left G.Source.left result)
+            (linked settings.now (S.Source.whole signal) (G.Source.whole indices)) }
     {
         let shifted = Each::new(DcOffset::new(settings.tx_dc), signal);
         let balanced = Each::new(Imbalance::new(settings.tx_imbalance), shifted);
@@ -111,8 +111,9 @@ pub fn standard_chain<S: Source<Item = ConverterSample>, G: Source<Item = GainIn
     signal: S,
     indices: G,
 ) -> StandardChain<S, G>
-    ensures whole { chain_whole S.Source.whole G.Source.whole result ≡ played settings.now (S.Source.whole signal) (G.Source.whole indices) }
-    ensures left { chain_left S.Source.left G.Source.left result ≡ played settings.now (S.Source.whole signal) (G.Source.whole indices) }
+    ensures { AtStart (chain_whole S.Source.whole G.Source.whole result)
+        (chain_left S.Source.left G.Source.left result)
+        (played settings.now (S.Source.whole signal) (G.Source.whole indices)) }
 {
     let scaled = Each::new(settings.scale, signal);
     Link::new(settings, scaled, indices)

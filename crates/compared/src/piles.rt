@@ -19,60 +19,60 @@ const FAST: i64 = -9_007_199_254_740;
 fn around_clock(piles: &mut Piles<'_>) -> anyhow::Result<()> {
     let whole = Take::whole(80);
     piles.multipaths_around_clock("multipath-clock-multipath", whole, FAST)?;
-    let spoilt = Take::spoilt(80, 70);
-    piles.multipaths_around_clock("multipath-clock-multipath-fault", spoilt, FAST)?;
+    let faulty = Take::faulty(80, 70);
+    piles.multipaths_around_clock("multipath-clock-multipath-fault", faulty, FAST)?;
     let long = Take::whole(1100);
     piles.multipaths_around_clock("multipath-clock-multipath-long", long, SLOW)?;
-    let long_spoilt = Take::spoilt(1100, 1002);
-    piles.multipaths_around_clock("multipath-clock-multipath-long-fault", long_spoilt, SLOW)
+    let long_faulty = Take::faulty(1100, 1002);
+    piles.multipaths_around_clock("multipath-clock-multipath-long-fault", long_faulty, SLOW)
 }
 
 fn below_clock(piles: &mut Piles<'_>) -> anyhow::Result<()> {
     piles.lead_below_clock("clock-lead", Take::whole(30), 1 << 43)?;
-    piles.lead_below_clock("clock-lead-fault", Take::spoilt(30, 12), FAST)?;
-    piles.lead_below_clock("clock-lead-fault-at-once", Take::spoilt(30, 0), FAST)?;
+    piles.lead_below_clock("clock-lead-fault", Take::faulty(30, 12), FAST)?;
+    piles.lead_below_clock("clock-lead-fault-at-once", Take::faulty(30, 0), FAST)?;
     piles.clock_over_clock("clock-clock", Take::whole(60), FAST, SLOW)?;
-    piles.clock_over_clock("clock-clock-fault", Take::spoilt(60, 31), FAST, FAST)?;
+    piles.clock_over_clock("clock-clock-fault", Take::faulty(60, 31), FAST, FAST)?;
     piles.turned_held("frequency-clock-lead-held", 50, FAST)?;
     piles.turned_held("frequency-clock-lead-held-slow", 50, SLOW)?;
-    piles.turned_signal("frequency-clock-lead-fault", Take::spoilt(50, 20), SLOW)
+    piles.turned_signal("frequency-clock-lead-fault", Take::faulty(50, 20), SLOW)
 }
 
 fn turns(piles: &mut Piles<'_>) -> anyhow::Result<()> {
     piles.amplified("amplifier-frequency", Take::whole(60))?;
-    piles.amplified("amplifier-frequency-fault", Take::spoilt(60, 41))?;
+    piles.amplified("amplifier-frequency-fault", Take::faulty(60, 41))?;
     piles.turned_twice("frequency-frequency", Take::whole(40))?;
-    piles.led_twice("lead-lead-fault", Take::spoilt(20, 6))
+    piles.lead_twice("lead-lead-fault", Take::faulty(20, 6))
 }
 
 fn pairings(piles: &mut Piles<'_>) -> anyhow::Result<()> {
     let whole = Take::whole(40);
-    let spoilt = Take::spoilt(40, 25);
+    let faulty = Take::faulty(40, 25);
     piles.noise_twice("noise-noise-ends-with-second", whole, 50, 30)?;
     piles.noise_twice("noise-noise-ends-with-inner", whole, 17, 30)?;
-    piles.noise_twice("noise-noise-fault", spoilt, 50, 30)?;
-    piles.noise_twice("noise-noise-fault-at-equal-length", spoilt, 25, 25)?;
-    piles.noise_twice("noise-noise-fault-hidden", spoilt, 50, 24)
+    piles.noise_twice("noise-noise-fault", faulty, 50, 30)?;
+    piles.noise_twice("noise-noise-fault-at-equal-length", faulty, 25, 25)?;
+    piles.noise_twice("noise-noise-fault-hidden", faulty, 50, 24)
 }
 
 fn receivers(piles: &mut Piles<'_>) -> anyhow::Result<()> {
     let whole = Take::whole(40);
-    let gains = Take::spoilt(40, 20);
+    let gains = Take::faulty(40, 20);
     piles.receive_gain("receive-gain-noise", whole, whole)?;
     piles.receive_gain(
         "receive-gain-noise-signal-fault",
-        Take::spoilt(40, 30),
+        Take::faulty(40, 30),
         whole,
     )?;
     piles.receive_gain("receive-gain-noise-gain-fault", whole, gains)?;
     piles.receive_gain(
         "receive-gain-noise-equal-faults",
-        Take::spoilt(40, 23),
+        Take::faulty(40, 23),
         gains,
     )?;
     piles.gained_twice("gain-gain", whole)?;
     piles.receiver("receiver", whole, whole)?;
-    piles.receiver("receiver-fault", Take::spoilt(40, 30), whole)
+    piles.receiver("receiver-fault", Take::faulty(40, 30), whole)
 }
 
 pub(crate) fn run(rt: &HostRuntime) -> anyhow::Result<()> {

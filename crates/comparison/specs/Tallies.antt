@@ -1,4 +1,4 @@
--- Counting, up to the greatest number that a count can tell.
+-- Counting, up to the greatest number that a count can hold.
 use Rattle.std.specs.Prelude.{ℕ, ◌+◌, ◌-◌, ◌^◌, min}
 
 abbrev pub counted : ℕ → ℕ → ℕ

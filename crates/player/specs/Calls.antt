@@ -13,12 +13,12 @@ pub data Asked (T : Type 0) : Type 0 where
   skip : ℕ → Asked T
   rewind : Asked T
 
--- what it tells: a fill with its buffer as it is after the call
-pub data Told (T : Type 0) : Type 0 where
-  item : Result (Option T) PlayerFault → Told T
-  filled : Result ℕ PlayerFault → List T → Told T
-  skipped : Result ℕ PlayerFault → Told T
-  rewound : Told T
+-- what it answers: a fill with its buffer as it is after the call
+pub data Answered (T : Type 0) : Type 0 where
+  item : Result (Option T) PlayerFault → Answered T
+  filled : Result ℕ PlayerFault → List T → Answered T
+  skipped : Result ℕ PlayerFault → Answered T
+  rewound : Answered T
 
 -- how many items are wanted: by next one, by fill as many as its buffer holds, by skip n
 abbrev pub wanted : {T : Type 0} → Asked T → ℕ
@@ -34,9 +34,9 @@ asked (Fill buffer) = fill (vec_items buffer)
 asked (Skip n) = skip n
 asked Rewind = rewind
 
--- what an answer tells
-abbrev pub told : {T : Type 0} → Answer T → Told T
-told (Item r) = item r
-told (Filled r buffer) = filled r (vec_items buffer)
-told (Skipped r) = skipped r
-told Rewound = rewound
+-- what an answer says
+abbrev pub answered : {T : Type 0} → Answer T → Answered T
+answered (Item r) = item r
+answered (Filled r buffer) = filled r (vec_items buffer)
+answered (Skipped r) = skipped r
+answered Rewound = rewound

@@ -1,4 +1,3 @@
-pub mod Alike
 pub mod Calls
 pub mod Plain
 pub mod Runs

@@ -1,11 +1,11 @@
 // The calls of a player as values, and their answers.
 ghost use Rattle.std.specs.Prelude.{◌≡◌, true, ◌↔◌};
-ghost use Rattle.player.specs.Alike.{same_fill, same_filled};
-ghost use Rattle.player.specs.Calls.{asked, told};
+ghost use Rattle.std.specs.Cmp.Lexicographic.{pointwise_decides};
+ghost use Rattle.player.specs.Calls.{asked, answered};
 ghost use Rattle.std.proofs.Common.{rules};
 
 use crate::fault::PlayerFault;
-use samples::exact::Exact;
+use samples::sample::Exact;
 
 /// One call, with its argument. A fill brings its buffer.
 #[derive(PartialEq, Eq, Debug, Drop)]
@@ -33,11 +33,13 @@ pub enum Answer<T> {
     Rewound,
 }
 
-/// Values with buffers: `==` is true of two exactly if they mean the same, each buffer being the items that it holds.
+/// Values with buffers: `==` is true of two exactly if they mean the same, each buffer being the
+/// items that it holds.
 pub trait Alike: PartialEq {
-    // two values mean the same
+    /// Two values mean the same.
     ghost same: { Self → Self → Type 0 };
 
+    /// `==` is true exactly of two that mean the same.
     ghost alike: { (x y : Self) → (Self.eq x y ≡ true) ↔ same x y };
 }
 
@@ -48,7 +50,10 @@ impl<T: Exact> Alike for Call<T> {
 
     ghost alike = { elim [
       | Next ↦ Prim.search rules
-      | Fill b ↦ elim [ Fill c ↦ same_fill T.exact b.items c.items | _ ↦ Prim.search rules ]
+      | Fill b ↦ elim [
+        | Fill c ↦ Prim.search (rules, pointwise_decides T.exact b.items c.items)
+        | _ ↦ Prim.search rules
+      ]
       | Skip n ↦ Prim.search rules
       | Rewind ↦ Prim.search rules
     ] };
@@ -57,11 +62,14 @@ impl<T: Exact> Alike for Call<T> {
 impl<T: Exact> Alike for Answer<T> {
     ghost use Rattle.player.specs.declared.calls.Answer.TheVariants.{Item, Filled, Skipped, Rewound};
 
-    ghost same = { λ x y. told x ≡ told y };
+    ghost same = { λ x y. answered x ≡ answered y };
 
     ghost alike = { elim [
       | Item r ↦ Prim.search rules
-      | Filled r b ↦ elim [ Filled s c ↦ same_filled T.exact b.items c.items r s _ (Prim.search rules) | _ ↦ Prim.search rules ]
+      | Filled r b ↦ elim [
+        | Filled s c ↦ Prim.search (rules, pointwise_decides T.exact b.items c.items)
+        | _ ↦ Prim.search rules
+      ]
       | Skipped r ↦ Prim.search rules
       | Rewound ↦ Prim.search rules
     ] };

@@ -4,7 +4,7 @@ ghost use Rattle.player.specs.Plain.{player_fault};
 ghost use Rattle.player.specs.Words.{player_fault_text};
 ghost use Rattle.std.proofs.Common.{rules};
 
-use samples::exact::Exact;
+use samples::sample::Exact;
 use sources::fault::Fault;
 use sources::place::LAST_PLACE;
 use std::fmt;

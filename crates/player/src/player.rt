@@ -1,9 +1,10 @@
 // A player: it plays one source, item by item, in blocks, or passing items over.
 ghost use Rattle.std.specs.Prelude.{◌≡◌, length};
-ghost use Rattle.player.specs.Calls.{next, fill, skip, rewind, item, filled, skipped, rewound};
+ghost use Rattle.player.specs.Calls.{next, fill, skip, rewind, item, filled, skipped, rewound, asked, answered};
 ghost use Rattle.player.specs.Runs.{EveryRunLawful};
-ghost use Rattle.player.specs.Standing.{next_answer, left_to_later, count_answer, buffer_after, onward, restarted, Plays, Stands};
+ghost use Rattle.player.specs.Standing.{next_answer, left_to_later, count_answer, buffer_after, answer_to, onward, restarted, standing_after, Plays, Stands};
 
+use crate::calls::{Answer, Call};
 use crate::fault::PlayerFault;
 use sources::place::Place;
 use sources::source::Source;
@@ -19,17 +20,17 @@ pub struct Player<S: Source> {
 
 // In clauses a player is where it stands.
 impl<S: Source> Model for Player<S> {
-    ghost use Rattle.player.specs.Standing.{Standing};
+    ghost use Rattle.player.specs.Standing.{Standing, standing};
 
     ghost Value = { Standing S.Item };
 
-    ghost view = { λ p. record { whole = S.whole p.source; left = S.left p.source; place = p.place.count } };
+    ghost view = { λ p. standing (S.whole p.source) (S.left p.source) p.place.count };
 }
 
 impl<S: Source> Player<S> {
-    /// A player at the start of the source's whole. Whatever calls are then made of it, in any order and with any arguments:
-    /// what comes out at place k is item k of that whole, and its end or its fault is told exactly where items are wanted
-    /// and none is left.
+    /// A player at the start of the source's whole. Whatever calls are then made of it, in any
+    /// order and with any arguments: what comes out at place k is item k of that whole, and its end
+    /// or its fault is reported exactly where items are wanted and none is left.
     #[tactic(auto, using(crate::proofs::Running::lawful))]
     pub fn new(source: S) -> Self
         ensures stands { Stands result (S.whole source) 0 }
@@ -58,7 +59,8 @@ impl<S: Source> Player<S> {
         Ok(item)
     }
 
-    // The next item for a call that goes on. Once it has got items, a fault is left to the call after it.
+    // The next item for a call that goes on. If it has already returned items, a fault comes on the
+    // next call.
     #[inline(always)]
     fn more(&mut self, got: bool) -> Result<Option<S::Item>, PlayerFault>
         ensures answers { result ≡ left_to_later got (next_answer self.old) }
@@ -70,8 +72,8 @@ impl<S: Source> Player<S> {
         }
     }
 
-    /// Puts the next items into the buffer from its start, and answers how many; other places stay. Where items are
-    /// wanted and none is left: 0, or the fault.
+    /// Puts the next items into the buffer from its start, and answers how many; other places stay.
+    /// Where items are wanted and none is left: 0, or the fault.
     pub fn fill(&mut self, buffer: &mut [S::Item]) -> Result<usize, PlayerFault>
         ensures answers { result ≡ count_answer (length buffer.old) self.old }
         ensures buffer { buffer.new ≡ buffer_after buffer.old self.old }
@@ -90,7 +92,8 @@ impl<S: Source> Player<S> {
         Ok(buffer.len())
     }
 
-    /// Passes the next n items over, and answers how many. Where items are wanted and none is left: 0, or the fault.
+    /// Passes the next n items over, and answers how many. Where items are wanted and none is left:
+    /// 0, or the fault.
     pub fn skip(&mut self, n: u32) -> Result<u32, PlayerFault>
         ensures answers { result ≡ count_answer n self.old }
         ensures moves { self.new ≡ onward n self.old }
@@ -113,5 +116,25 @@ impl<S: Source> Player<S> {
     {
         self.source.rewind();
         self.place = Place::start();
+    }
+
+    /// Carries out one call.
+    pub fn answer(&mut self, call: Call<S::Item>) -> Answer<S::Item>
+        ensures answers { answered result ≡ answer_to (asked call) self.old }
+        ensures moves { self.new ≡ standing_after (asked call) self.old }
+        ensures plays { Plays (asked call) self.old self.new (answered result) }
+    {
+        match call {
+            Call::Next => Answer::Item(self.next()),
+            Call::Fill(mut buffer) => {
+                let count = self.fill(buffer.as_mut_slice());
+                Answer::Filled(count, buffer)
+            }
+            Call::Skip(n) => Answer::Skipped(self.skip(n)),
+            Call::Rewind => {
+                self.rewind();
+                Answer::Rewound
+            }
+        }
     }
 }

@@ -2,4 +2,4 @@ pub mod Back
 pub mod Filling
 pub mod Overwriting
 pub mod Rewriting
-pub mod Sittings
+pub mod Sessions

@@ -1,8 +1,8 @@
 -- What bytes hold after a write, and what they held before it.
-use Rattle.std.proofs.Common.{◌≡◌, ℕ, ◌+◌, ◌-◌, ◌*◌, ◌≤◌, List, ◌++◌, length, take, drop, sym, ap, ◌∙◌, ap₂, append_assoc, arith}
+use Rattle.std.proofs.Common.{◌≡◌, ℕ, ◌+◌, ◌-◌, ◌*◌, ◌≤◌, List, ◌++◌, length, take, drop, sym, ap, ◌∙◌, append_assoc, arith}
 use Rattle.std.proofs.lemmas.List.{length-append, length-take-le, length-drop, length_push, take_at, drop_at, drop-drop, take-append-drop, flat_map_more}
 use Rattle.std.specs.List.{flat_map}
-use Rattle.samples.specs.declared.converter.ConverterSample.{ConverterSample}
+use Rattle.samples.specs.declared.kinds.ConverterSample.{ConverterSample}
 use Rattle.recordings.specs.Bytes.{overwrite}
 use Rattle.recordings.specs.Opening.{HandsOut, signal_opening}
 use Rattle.recorder.specs.Writing.{header, coded, size_of, recorded, sized, Adds, Finishes}
@@ -26,9 +26,7 @@ pub overwrite_more : (s : ℕ) (xs ys b : List ℕ) (n : ℕ) → s ≤ length b
 overwrite_more s xs ys b n h e =
     let behind : drop (n + length ys) (overwrite s xs b) ≡ drop (n + length ys) b = sym (drop-drop (length ys) n (overwrite s xs b)) ∙ ap (drop (length ys)) (drop-overwrite s xs b n h e) ∙ drop-drop (length ys) n b in
     let end : n + length ys ≡ s + length (xs ++ ys) = let l = length-append xs ys in omega arith in
-    ap₂ (λ (p q : List ℕ). p ++ (ys ++ q)) (take-overwrite s xs b n h e) (behind ∙ ap (λ (k : ℕ). drop k b) end)
-    ∙ append_assoc (take s b) xs (ys ++ drop (s + length (xs ++ ys)) b)
-    ∙ ap (λ (p : List ℕ). take s b ++ p) (sym (append_assoc xs ys (drop (s + length (xs ++ ys)) b)))
+    rw (take-overwrite s xs b n h e, behind ∙ ap (λ (k : ℕ). drop k b) end) (simp append_assoc)
 
 -- one sample more
 pub adds : (b : List ℕ) (n : ℕ) (x : ConverterSample) → size_of (n + 1) ≤ length b → Adds b (overwrite (size_of n) (coded x) b) n x
@@ -54,9 +52,4 @@ finishes b n room short rate xs l good h =
 
 -- a write within the bytes keeps their number
 pub overwrite_length : (s : ℕ) (xs b : List ℕ) → s + length xs ≤ length b → length (overwrite s xs b) ≡ length b
-overwrite_length s xs b h =
-    let l = length-append (take s b) (xs ++ drop (s + length xs) b) in
-    let m = length-append xs (drop (s + length xs) b) in
-    let t = length-take-le s b (omega arith) in
-    let d = length-drop (s + length xs) b in
-    omega arith
+overwrite_length s xs b h = omega (arith, length-append (take s b) (xs ++ drop (s + length xs) b), length-append xs (drop (s + length xs) b), length-take-le s b (omega arith), length-drop (s + length xs) b)

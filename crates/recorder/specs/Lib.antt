@@ -1,4 +1,3 @@
-pub mod LetGo
 pub mod Refusals
 pub mod Sessions
 pub mod Writing

@@ -1,7 +1,7 @@
 -- A whole session: one recording of what a source has left, as far as there is room.
-use Rattle.std.specs.Prelude.{◌≡◌, ℕ, ◌-◌, ◌/◌, ◌≤◌, min, Bool, true, cond, ◌&&◌, List, length, take, Some, None, Ok, Err, Option, Result, nat_le}
+use Rattle.std.specs.Prelude.{◌≡◌, ℕ, ◌-◌, ◌/◌, ◌≤◌, min, Bool, true, cond, ◌&&◌, List, length, take, Some, None, Ok, Err, Option, Result, MatchResult, nat_le}
 use Rattle.std.specs.List.{flat_map}
-use Rattle.samples.specs.declared.converter.ConverterSample.{ConverterSample}
+use Rattle.samples.specs.declared.kinds.ConverterSample.{ConverterSample}
 use Rattle.sources.specs.Streams.{Ending, Stream, from}
 use Rattle.recordings.specs.declared.refusal.OpeningRefusal.{OpeningRefusal}
 use Rattle.recorder.specs.declared.refusal.RewritingRefusal.{RewritingRefusal}
@@ -11,7 +11,7 @@ use Rattle.recorder.specs.declared.refusal.WritingRefusal.TheVariants.{Full}
 use Rattle.recorder.specs.declared.session.Part.{Part}
 use Rattle.recordings.specs.Bytes.{overwrite}
 use Rattle.recordings.specs.Rates.{good_rate}
-use Rattle.recordings.specs.Opening.{Opened, HandsOut}
+use Rattle.recordings.specs.Opening.{Opened, Reading, opened_of, HandsOut}
 use Rattle.recorder.specs.Writing.{coded, size_of, recorded, good_buffer, fits, accepting}
 
 -- how many samples a buffer of len bytes has room for
@@ -70,6 +70,16 @@ rewrite_answer len (Ok o) = as_writing (record_answer len o.rate o.whole)
 abbrev pub after_rewrite : List ℕ → Result (Opened ConverterSample) OpeningRefusal → List ℕ
 after_rewrite b (Err e) = b
 after_rewrite b (Ok o) = after_record b o.rate o.whole
+
+-- what rewriting hands back: what was written, and the recording that was opened, with what is left of it
+pub record Rewrites (len : ℕ) (opening : Result (Opened ConverterSample) OpeningRefusal) (part : Part) (recording : Reading ConverterSample) : Type 0 where
+  pub answer : rewrite_answer len opening ≡ Ok part
+  pub recording_is : opening ≡ Ok (opened_of recording)
+  pub onward : recording.left ≡ left_after_record len recording.rate recording.whole
+
+-- rewriting is answered as defined: by those two, or by the refusal
+abbrev pub RewritesAs : Result (Part × Reading ConverterSample) RewritingRefusal → ℕ → Result (Opened ConverterSample) OpeningRefusal → Type 0
+RewritesAs result len opening = MatchResult result (λ p. Rewrites len opening p.0 p.1) (λ e. rewrite_answer len opening ≡ Err e)
 
 -- The other round trip: a recording of the shape that we write, which fits the buffer, keeps every byte.
 abbrev pub Keeps : List ℕ → List ℕ → List ℕ → Result Part RewritingRefusal → Type 0

@@ -1,7 +1,7 @@
 -- What a written recording is, byte for byte, and what the buffer holds after each call of the writer.
 use Rattle.std.specs.Prelude.{◌≡◌, ℕ, suc, ◌+◌, ◌-◌, ◌*◌, Bool, true, cond, ◌&&◌, List, [], ◌∷◌, ◌++◌, length, take, ℤ, pos, negsuc, Ok, Err, codes, Result, nat_le}
 use Rattle.std.specs.List.{flat_map}
-use Rattle.samples.specs.declared.converter.ConverterSample.{ConverterSample}
+use Rattle.samples.specs.declared.kinds.ConverterSample.{ConverterSample}
 use Rattle.recorder.specs.declared.refusal.WritingRefusal.{WritingRefusal}
 use Rattle.recorder.specs.declared.refusal.WritingRefusal.TheVariants.{Buffer, Full, Rate}
 use Rattle.recorder.specs.declared.started.StartedRecording.{StartedRecording}
@@ -50,6 +50,10 @@ accepting len rate answer = cond (good_rate rate) (cond (good_buffer len) answer
 
 abbrev pub accept_answer : ℕ → ℕ → Result (Unit {0}) WritingRefusal
 accept_answer len rate = accepting len rate (Ok tt)
+
+-- A count at its limit, far above what a recording may have. To drop a started recording needs it, and none ever meets it.
+abbrev pub Overfull : StartedRecording → Type 0
+Overfull w = w.samples ≡ 4294967295
 
 -- start
 abbrev pub start_answer : ℕ → ℕ → Result StartedRecording WritingRefusal

@@ -5,7 +5,7 @@ ghost use Rattle.recordings.specs.Bytes.{overwrite, le16};
 ghost use Rattle.recorder.specs.Writing.{header, word, coded};
 
 use crate::started::HEADER;
-use samples::converter::ConverterSample;
+use samples::kinds::ConverterSample;
 
 // Writes the content at place `at`.
 pub(crate) fn place(bytes: &mut [u8], at: usize, content: &[u8])

@@ -5,7 +5,7 @@ ghost use Rattle.recorder.specs.declared.refusal.RewritingRefusal.TheVariants.{O
 ghost use Rattle.std.proofs.Common.{rules};
 
 use recordings::refusal::OpeningRefusal;
-use samples::exact::Exact;
+use samples::sample::Exact;
 use std::fmt;
 
 /// Why the writer does not do what it was asked.

@@ -1,8 +1,8 @@
 // Whole sessions: one recording of what a source has left, and a recording read and rewritten.
-ghost use Rattle.std.specs.Prelude.{◌≡◌, ◌+◌, ◌≤◌, length, take, IfOk, Ok, OnOk};
+ghost use Rattle.std.specs.Prelude.{◌≡◌, ◌+◌, ◌≤◌, length, take, OnOk};
 ghost use Rattle.sources.specs.Streams.{from};
-ghost use Rattle.recordings.specs.Opening.{signal_opening, AsDefined, HandsOut};
-ghost use Rattle.recorder.specs.Sessions.{taken, met, record_answer, after_record, left_after_record, filled, ComesBack, write_answer, after_write, rewrite_answer, after_rewrite, Keeps};
+ghost use Rattle.recordings.specs.Opening.{signal_opening, HandsOut};
+ghost use Rattle.recorder.specs.Sessions.{taken, met, record_answer, after_record, left_after_record, filled, ComesBack, write_answer, after_write, rewrite_answer, after_rewrite, RewritesAs, Keeps};
 ghost use Rattle.recorder.specs.Writing.{size_of};
 ghost use Rattle.std.proofs.Common.{rules};
 
@@ -10,8 +10,8 @@ use crate::refusal::{RewritingRefusal, WritingRefusal};
 use crate::started::{HEADER, StartedRecording, accept};
 use recordings::layout::Signal;
 use recordings::recording::Recording;
-use samples::converter::ConverterSample;
-use samples::exact::Exact;
+use samples::kinds::ConverterSample;
+use samples::sample::Exact;
 use sources::fault::Ending;
 use sources::listed::Listed;
 use sources::source::Source;
@@ -114,16 +114,8 @@ pub fn rewrite<'a>(
     input: u8,
     out: &mut [u8],
 ) -> Result<(Part, Recording<'a, Signal>), RewritingRefusal>
-    ensures answer { AsDefined result
-        (rewrite_answer (length out.old) (signal_opening input bytes.now)) (λ p. p.0) }
+    ensures answer { RewritesAs result (length out.old) (signal_opening input bytes.now) }
     ensures bytes { out.new ≡ after_rewrite out.old (signal_opening input bytes.now) }
-    ensures recording { IfOk result (λ p. signal_opening input bytes.now ≡ Ok (record {
-      rate = p.1.rate;
-      whole = ⟦<Recording<'a, Signal> as Source>⟧.whole p.1;
-    })) }
-    ensures onward { IfOk result (λ p. ⟦<Recording<'a, Signal> as Source>⟧.left p.1
-        ≡ left_after_record (length out.old) p.1.rate
-        (⟦<Recording<'a, Signal> as Source>⟧.whole p.1)) }
     ensures keeps { Keeps bytes.now out.old out.new
         (rewrite_answer (length out.old) (signal_opening input bytes.now)) }
 {

@@ -1,12 +1,11 @@
 // Writing a signal recording into a buffer: start, put, finish, abandon.
 ghost use Rattle.std.specs.Prelude.{◌≡◌, [], length, IfOk, OnOk};
-ghost use Rattle.recorder.specs.LetGo.{Overfull};
-ghost use Rattle.recorder.specs.Writing.{accept_answer, start_answer, after_start, put_answer, put_count, after_put, finish_answer, after_finish, Holds, Adds, Finishes};
+ghost use Rattle.recorder.specs.Writing.{accept_answer, start_answer, after_start, put_answer, put_count, after_put, finish_answer, after_finish, Holds, Adds, Finishes, Overfull};
 
 use crate::encoding::{coded, header, place};
 use crate::refusal::WritingRefusal;
 use recordings::format::MAX_RATE;
-use samples::converter::ConverterSample;
+use samples::kinds::ConverterSample;
 
 /// The bytes before the samples.
 pub const HEADER: usize = 44;
@@ -27,9 +26,9 @@ pub(crate) fn accept(length: usize, rate: u32) -> Result<(), WritingRefusal>
     Ok(())
 }
 
-/// A started recording: how many samples were put in. Its bytes are lent at each call, as it may be another buffer each
-/// time. It must be finished or abandoned: where a program lets it go, the check asks for a proof that it has as many samples
-/// as its count can tell. None has: not when it starts, and no put makes it so.
+/// A started recording: how many samples were put in. The caller lends the buffer at each call; it may be another one each
+/// time. It must be finished or abandoned: to drop it needs a proof that its count is the highest of 32 bits, and no
+/// recording comes that far.
 #[derive(Debug)]
 pub struct StartedRecording {
     samples: u32,

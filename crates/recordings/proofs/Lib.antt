@@ -1,3 +1,4 @@
 pub mod Places
 pub mod Reading
+pub mod Tests
 pub mod Walks

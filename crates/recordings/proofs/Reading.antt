@@ -1,10 +1,10 @@
 -- Reading one item: what is left loses its first.
-use Rattle.std.proofs.Common.{◌≡◌, ℕ, zero, suc, ◌+◌, ◌-◌, ◌*◌, ◌/◌, ◌<◌, ◌≤◌, List, [], ◌∷◌, length, take, drop, Some, None, Ok, Err, Result, sym, refl, ap, ◌∙◌, ap₂, add-mul, one-mul, zero-mul, arith, length-drop}
+use Rattle.std.proofs.Common.{◌≡◌, ℕ, zero, suc, ◌+◌, ◌-◌, ◌*◌, ◌/◌, ◌<◌, ◌≤◌, List, [], ◌∷◌, length, take, drop, Ok, Err, Result, sym, refl, ap, ◌∙◌, ap₂, add-mul, one-mul, zero-mul, arith, length-drop}
 use Rattle.std.proofs.Math.Nat.{div-eq-sub-div, div-eq_of_lt}
 use Rattle.std.proofs.lemmas.List.{drop-drop}
 use Rattle.sources.specs.declared.fault.FaultKind.{FaultKind}
-use Rattle.sources.specs.Streams.{tabulate, answer, rest}
-use Rattle.recordings.specs.Items.{item_at, before_fault, held_from, left_of}
+use Rattle.sources.specs.Streams.{tabulate}
+use Rattle.recordings.specs.Items.{item_at, good_items, ending_of, before_fault, held_from, left_of}
 
 -- the items from the second on are the items of what is behind the first
 shifted : {T : Type 0} (meaning : List ℕ → Result T FaultKind) (a : ℕ) (d : List ℕ) (j n : ℕ) → tabulate (item_at meaning a d) (j + 1) n ≡ tabulate (item_at meaning a (drop a d)) j n
@@ -34,29 +34,22 @@ more a d r some h part =
     div-eq-sub-div some e ∙ ap (λ (k : ℕ). k / a + 1) l
 
 module _ {T : Type 0} (meaning : List ℕ → Result T FaultKind) (a : ℕ) (input : ℕ) (d r : List ℕ) (some : 0 < a) where
-  -- no item is left: that is answered, and nothing moves
-  pub ends : length r < a → (answer (left_of meaning a input d r) ≡ Ok None) × (left_of meaning a input d r ≡ rest (left_of meaning a input d r))
-  ends h =
-      let e : left_of meaning a input d r ≡ record { items = []; ending = Ok tt } = ap (λ (k : ℕ). held_from meaning a input ((length d - length r) / a) k r) (div-eq_of_lt h) in
-      (ap answer e, e ∙ sym (ap rest e))
+  -- no item is left
+  pub ends : length r < a → left_of meaning a input d r ≡ record { items = []; ending = Ok tt }
+  ends h = ap (λ (k : ℕ). held_from meaning a input ((length d - length r) / a) k r) (div-eq_of_lt h)
 
   -- where one is left, it is the first, and the others are behind it
-  first : (y : Result T FaultKind) → a ≤ length r → meaning (take a r) ≡ y → tabulate (item_at meaning a r) 0 (length r / a) ≡ y ∷ tabulate (item_at meaning a (drop a r)) 0 (length (drop a r) / a)
+  first : (y : Result T FaultKind) → a ≤ length r → meaning (take a r) ≡ y → left_of meaning a input d r ≡ before_fault input ((length d - length r) / a) (y ∷ tabulate (item_at meaning a (drop a r)) 0 (length (drop a r) / a))
   first y h e =
       let m = length (drop a r) / a in
-      peeled meaning a r (length r / a) m (fewer a r some h) ∙ ap (λ (y : Result T FaultKind). y ∷ tabulate (item_at meaning a (drop a r)) 0 m) e
+      ap (before_fault input ((length d - length r) / a)) (peeled meaning a r (length r / a) m (fewer a r some h) ∙ ap (λ (y : Result T FaultKind). y ∷ tabulate (item_at meaning a (drop a r)) 0 m) e)
 
-  -- an item: it is answered, and what is left loses it
-  pub gives : (x : T) → a ≤ length r → length r ≤ length d → meaning (take a r) ≡ Ok x → (answer (left_of meaning a input d r) ≡ Ok (Some x)) × (left_of meaning a input d (drop a r) ≡ rest (left_of meaning a input d r))
+  -- an item: the others are left behind it
+  pub gives : (x : T) → a ≤ length r → length r ≤ length d → meaning (take a r) ≡ Ok x → left_of meaning a input d r ≡ (let rest = left_of meaning a input d (drop a r) in record { items = x ∷ rest.items; ending = rest.ending })
   gives x h part e =
-      let k = (length d - length r) / a in
-      let m = length (drop a r) / a in
-      let p = first (Ok x) h e in
-      (ap (λ (xs : List (Result T FaultKind)). answer (before_fault input k xs)) p, ap (λ (j : ℕ). held_from meaning a input j m (drop a r)) (more a d r some h part) ∙ sym (ap (λ (xs : List (Result T FaultKind)). rest (before_fault input k xs)) p))
+      let xs = tabulate (item_at meaning a (drop a r)) 0 (length (drop a r) / a) in
+      first (Ok x) h e ∙ ap (λ (j : ℕ). record { items = x ∷ good_items xs; ending = ending_of input j xs }) (sym (more a d r some h part))
 
-  -- a fault: it is answered, and nothing moves
-  pub fails : (kind : FaultKind) → a ≤ length r → meaning (take a r) ≡ Err kind → (answer (left_of meaning a input d r) ≡ Err (record { kind = kind; input = input; item = (length d - length r) / a })) × (left_of meaning a input d r ≡ rest (left_of meaning a input d r))
-  fails kind h e =
-      let k = (length d - length r) / a in
-      let p = first (Err kind) h e in
-      (ap (λ (xs : List (Result T FaultKind)). answer (before_fault input k xs)) p, ap (before_fault input k) p ∙ sym (ap (λ (xs : List (Result T FaultKind)). rest (before_fault input k xs)) p))
+  -- a fault: it is the ending
+  pub fails : (kind : FaultKind) → a ≤ length r → meaning (take a r) ≡ Err kind → left_of meaning a input d r ≡ record { items = []; ending = Err (record { kind = kind; input = input; item = (length d - length r) / a }) }
+  fails kind h e = first (Err kind) h e

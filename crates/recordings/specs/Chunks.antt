@@ -1,5 +1,5 @@
 -- Opening, up to the data: the tests in byte order, and what the first that fails answers.
-use Rattle.std.specs.Prelude.{ℕ, zero, suc, ◌+◌, ◌*◌, ◌%◌, Bool, cond, List, [], ◌∷◌, length, Some, None, Ok, Err, codes, Option, Result, ◌==◌, nat_le}
+use Rattle.std.specs.Prelude.{ℕ, zero, suc, ◌+◌, ◌*◌, ◌%◌, ◌≤◌, Bool, true, false, cond, List, [], ◌∷◌, length, Some, None, Ok, Err, codes, is_some, Option, Result, ◌==◌, nat_le}
 use Rattle.recordings.specs.declared.format.Format.{Format}
 use Rattle.recordings.specs.declared.chunks.ChunkKind.{ChunkKind}
 use Rattle.recordings.specs.declared.chunks.ChunkKind.TheVariants as kinds
@@ -42,7 +42,7 @@ kind_of name = cond (name == mark (codes "fmt ")) kinds.Format (cond (name == ma
 abbrev pub kind_at : List ℕ → ℕ → ChunkKind
 kind_at b s = kind_of (u32_at b s)
 
--- the size that the chunk at s tells
+-- the size in the head of the chunk at s
 abbrev pub size_at : List ℕ → ℕ → ℕ
 size_at b s = u32_at b (s + 4)
 
@@ -76,16 +76,37 @@ data_tests f b s =
     ∷ complete b s
     ∷ []
 
--- what the chunk at s leads to, where the rate is known from a format chunk before it or not
-abbrev pub chunk_of : ChunkKind → Format → List ℕ → ℕ → Option ℕ → Result Step OpeningRefusal
-chunk_of kinds.Format f b s None = tested (format_tests f b s) (Ok (steps.Onward (chunk_end b s) (Some (u32_at b (s + 12)))))
-chunk_of kinds.Format f b s (Some rate) = tested (complete b s ∷ []) (Ok (steps.Onward (chunk_end b s) (Some rate)))
-chunk_of kinds.Data f b s None = Err (DataBeforeFormat s)
-chunk_of kinds.Data f b s (Some rate) = tested (data_tests f b s) (Ok (steps.Data (record { rate = rate; start = s + 8; size = size_at b s })))
-chunk_of kinds.Other f b s rate = tested (complete b s ∷ []) (Ok (steps.Onward (chunk_end b s) rate))
+-- the tests of the chunk at s behind its head, in their order, where a format chunk came before it or not
+abbrev pub tests_of : ChunkKind → Bool → Format → List ℕ → ℕ → List Test
+tests_of kinds.Format false f b s = format_tests f b s
+tests_of kinds.Format true f b s = complete b s ∷ []
+tests_of kinds.Data false f b s = (false, DataBeforeFormat s) ∷ []
+tests_of kinds.Data true f b s = data_tests f b s
+tests_of kinds.Other formatted f b s = complete b s ∷ []
 
+-- what it leads to behind its tests, where the rate is known from a format chunk before it or not
+abbrev pub leads_to : ChunkKind → List ℕ → ℕ → Option ℕ → Result Step OpeningRefusal
+leads_to kinds.Format b s None = Ok (steps.Onward (chunk_end b s) (Some (u32_at b (s + 12))))
+leads_to kinds.Format b s (Some rate) = Ok (steps.Onward (chunk_end b s) (Some rate))
+leads_to kinds.Data b s None = Err (DataBeforeFormat s)
+leads_to kinds.Data b s (Some rate) = Ok (steps.Data (record { rate = rate; start = s + 8; size = size_at b s }))
+leads_to kinds.Other b s rate = Ok (steps.Onward (chunk_end b s) rate)
+
+abbrev pub chunk_of : ChunkKind → Format → List ℕ → ℕ → Option ℕ → Result Step OpeningRefusal
+chunk_of kind f b s rate = tested (tests_of kind (is_some rate) f b s) (leads_to kind b s rate)
+
+-- all tests of the chunk at s
+abbrev pub chunk_tests : Bool → Format → List ℕ → ℕ → List Test
+chunk_tests formatted f b s = (nat_le (s + 8) (length b), TooShort s) ∷ tests_of (kind_at b s) formatted f b s
+
+-- what the chunk at s answers
 abbrev pub chunk : Format → List ℕ → ℕ → Option ℕ → Result Step OpeningRefusal
-chunk f b s rate = tested ((nat_le (s + 8) (length b), TooShort s) ∷ []) (chunk_of (kind_at b s) f b s rate)
+chunk f b s rate = tested (chunk_tests (is_some rate) f b s) (leads_to (kind_at b s) b s rate)
+
+-- it leads onward behind its own head, and stays within the bytes
+abbrev pub Inside : List ℕ → ℕ → Step → Type 0
+Inside b s (steps.Onward t rate) = (s + 8 ≤ t) × (t ≤ length b)
+Inside b s (steps.Data found) = found.start + found.size ≤ length b
 
 -- one chunk, and from there on
 abbrev pub from_step : Result Step OpeningRefusal → (ℕ → Option ℕ → Result Found OpeningRefusal) → Result Found OpeningRefusal

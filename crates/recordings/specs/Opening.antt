@@ -1,7 +1,7 @@
 -- What opening answers, for every byte string.
 use Rattle.std.specs.Prelude.{◌≡◌, ℕ, ◌/◌, List, take, drop, Ok, Err, Result, MatchResult}
 use Rattle.std.proofs.Common.{lit<}
-use Rattle.samples.specs.declared.converter.ConverterSample.{ConverterSample}
+use Rattle.samples.specs.declared.kinds.ConverterSample.{ConverterSample}
 use Rattle.samples.specs.declared.gain_index.GainIndex.{GainIndex}
 use Rattle.sources.specs.declared.fault.FaultKind.{FaultKind}
 use Rattle.sources.specs.Streams.{Stream}
@@ -16,6 +16,16 @@ pub record Opened (T : Type 0) : Type 0 where
   pub rate : ℕ
   pub whole : Stream T
 
+-- An opened recording as it is read: its rate, everything that it holds, and what is left of that.
+pub record Reading (T : Type 0) : Type 0 where
+  pub rate : ℕ
+  pub whole : Stream T
+  pub left : Stream T
+
+-- what was opened, however far it is read
+abbrev pub opened_of : {T : Type 0} → Reading T → Opened T
+opened_of r = record { rate = r.rate; whole = r.whole }
+
 -- the content of the data chunk
 abbrev pub content : List ℕ → Found → List ℕ
 content b found = take found.size (drop found.start b)
@@ -28,9 +38,14 @@ opened meaning a input b (Ok found) = Ok (record { rate = found.rate; whole = he
 abbrev pub opening : {T : Type 0} → Format → (List ℕ → Result T FaultKind) → ℕ → List ℕ → Result (Opened T) OpeningRefusal
 opening f meaning input b = opened meaning f.align input b (find_data f b)
 
--- a call is answered as defined: what it hands back tells the defined value, or the call is refused for the defined reason
-abbrev pub AsDefined : {R A E : Type 0} → Result R E → Result A E → (R → A) → Type 0
-AsDefined result defined tells = MatchResult result (λ x. defined ≡ Ok (tells x)) (λ e. defined ≡ Err e)
+-- a recording at its start: it is the one that is defined, and all that it holds is left
+pub record OpenedAs {T E : Type 0} (defined : Result (Opened T) E) (x : Reading T) : Type 0 where
+  pub answer : defined ≡ Ok (opened_of x)
+  pub left : x.left ≡ x.whole
+
+-- opening is answered as defined: by the recording at its start, or by the refusal
+abbrev pub OpensAs : {T E : Type 0} → Result (Reading T) E → Result (Opened T) E → Type 0
+OpensAs result defined = MatchResult result (OpenedAs defined) (λ e. defined ≡ Err e)
 
 -- a signal recording: 2 channels, 4 bytes a sample, 12 bits
 abbrev pub signal_format : Format

@@ -1,15 +1,12 @@
 -- The law of opening, in terms of the chunks by their numbers: where the data is found, or what stops the way to it.
-use Rattle.std.specs.Prelude.{◌≡◌, ℕ, ◌+◌, ◌*◌, ◌%◌, ◌<◌, ◌≤◌, Bool, true, false, ◌⊎◌, ◌↔◌, List, [], ◌∷◌, ◌++◌, length, codes, IsTrue, nat_le}
+use Rattle.std.specs.Prelude.{◌≡◌, ℕ, ◌+◌, ◌*◌, ◌%◌, ◌<◌, ◌≤◌, Bool, false, ◌⊎◌, ◌↔◌, List, ◌∷◌, ◌++◌, length, codes, IsTrue}
 use Rattle.std.specs.Fn.{iterate}
 use Rattle.std.specs.List.{AllPass}
 use Rattle.recordings.specs.declared.format.Format.{Format}
-use Rattle.recordings.specs.declared.chunks.ChunkKind.{ChunkKind}
-use Rattle.recordings.specs.declared.chunks.ChunkKind.TheVariants as kinds
 use Rattle.recordings.specs.declared.chunks.Found.{Found}
 use Rattle.recordings.specs.declared.refusal.OpeningRefusal.{OpeningRefusal}
-use Rattle.recordings.specs.declared.refusal.OpeningRefusal.TheVariants.{TooShort, DataBeforeFormat}
 use Rattle.recordings.specs.Bytes.{u16_at, u32_at}
-use Rattle.recordings.specs.Chunks.{mark, Test, head, size_at, kind_at, chunk_end, complete, format_tests, data_tests}
+use Rattle.recordings.specs.Chunks.{mark, Test, head, size_at, chunk_end, chunk_tests}
 use Rattle.recordings.specs.Rates.{good_rate}
 
 -- where chunk n begins; the first is chunk 0
@@ -73,18 +70,6 @@ pub record FirstFailing (tests : List Test) (e : OpeningRefusal) : Type 0 where
   pub after : List Test
   pub tests_are : tests ≡ before ++ (false, e) ∷ after
   pub pass : AllPass (λ t. t.0) before
-
--- the tests of the chunk at s behind its head, in their order, where a format chunk came before it or not
-abbrev pub tests_of : ChunkKind → Bool → Format → List ℕ → ℕ → List Test
-tests_of kinds.Format false f b s = format_tests f b s
-tests_of kinds.Format true f b s = complete b s ∷ []
-tests_of kinds.Data false f b s = (false, DataBeforeFormat s) ∷ []
-tests_of kinds.Data true f b s = data_tests f b s
-tests_of kinds.Other formatted f b s = complete b s ∷ []
-
--- all tests of the chunk at s
-abbrev pub chunk_tests : Bool → Format → List ℕ → ℕ → List Test
-chunk_tests formatted f b s = (nat_le (s + 8) (length b), TooShort s) ∷ tests_of (kind_at b s) formatted f b s
 
 -- the way stops at chunk n: those before it are passed over, and e is the refusal of its first test that fails
 pub record StopsAtChunk (f : Format) (b : List ℕ) (e : OpeningRefusal) : Type 0 where

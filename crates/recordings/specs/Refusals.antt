@@ -41,7 +41,7 @@ field_text Align = codes "an item must have 4 bytes in a signal, 1 in a gain rec
 field_text Bits = codes "the bits must be 12 for a signal, 8 for a gain recording"
 field_text DataSize = codes "the data's size must be a multiple of the bytes of an item"
 
--- a wrong field is told by its own words
+-- a wrong field is reported by its own words
 abbrev pub opening_text : OpeningRefusal → List ℕ
 opening_text (TooShort s) = codes "the bytes end too early"
 opening_text (WrongHead h) = head_text h

@@ -2,12 +2,27 @@
 ghost use Rattle.std.specs.Prelude.{◌≡◌, ◌+◌, ◌^◌, ◌<◌, ◌≤◌, [], ◌∷◌, ◌==◌, length, IfOk, IfErr, if◌then◌else◌, Some, None, Ok, Err, OnOk};
 ghost use Rattle.recordings.specs.Bytes.{u16_at, u32_at};
 ghost use Rattle.recordings.specs.declared.refusal.OpeningRefusal.TheVariants.{TooShort, WrongField};
-ghost use Rattle.recordings.specs.Chunks.{mark, kind_at, size_at, chunk_end, tested, head, field_tests, complete, chunk_of, chunk, chunks, find_data};
+ghost use Rattle.recordings.specs.Chunks.{mark, kind_at, size_at, chunk_end, tested, head, field_tests, complete, chunk_of, chunk, Inside, chunks, find_data};
 ghost use Rattle.recordings.specs.Reaching.{Reached, Stopped};
 
-use crate::bytes::{u16_at, u32_at};
 use crate::format::{Format, MAX_RATE};
 use crate::refusal::{Field, HeadField, OpeningRefusal};
+
+// The 16-bit number at place `at`, the lowest byte first.
+fn u16_at(bytes: &[u8], at: usize) -> u16
+    requires { at + 2 ≤ length bytes.now }
+    ensures { result ≡ u16_at bytes.now at }
+{
+    u16::from_le_bytes([bytes[at], bytes[at + 1]])
+}
+
+// The 32-bit number, likewise.
+fn u32_at(bytes: &[u8], at: usize) -> u32
+    requires { at + 4 ≤ length bytes.now }
+    ensures { result ≡ u32_at bytes.now at }
+{
+    u32::from_le_bytes([bytes[at], bytes[at + 1], bytes[at + 2], bytes[at + 3]])
+}
 
 #[derive(Clone, Copy)]
 enum ChunkKind {
@@ -27,8 +42,8 @@ pub struct Found {
     pub size: usize,
 }
 
-/// What one chunk leads to: the next chunk with the rate that is known by then, or the data. Public, since proofs that
-/// written bytes open go by it. Not `ControlFlow`, which names no chunk and no data.
+/// What one chunk leads to: the next chunk with the rate that is known by then, or the data. Public, since the proofs of the
+/// recorder name it.
 #[derive(Clone, Copy)]
 pub enum Step {
     /// The place where the next chunk begins, and the rate, if a format chunk came.
@@ -52,7 +67,7 @@ fn is_marked(bytes: &[u8], at: usize, letters: &[u8; 4]) -> bool
     u32_at(bytes, at) == u32_at(letters, 0)
 }
 
-// What it promises of the length is asked of the walk and its steps below; a chunk carries it from there.
+// The walk and its steps below need the bounds on the length; each chunk keeps them.
 fn check_head(bytes: &[u8]) -> Result<(), OpeningRefusal>
     ensures answer { result ≡ tested (head bytes.now) (Ok tt) }
     ensures length { OnOk result ((12 ≤ length bytes.now) × (length bytes.now < 2 ^ 33)) }
@@ -105,7 +120,7 @@ impl<'a> Chunk<'a> {
         }
     }
 
-    // The size of the content, as the head tells it.
+    // The size of the content, from the chunk's head.
     fn size(&self) -> u32
         ensures { result ≡ size_at self.now.bytes.now self.now.at }
     {
@@ -114,8 +129,10 @@ impl<'a> Chunk<'a> {
 
     // Where it ends: behind the content, and the pad byte that follows an odd size. All of it lies within the bytes.
     fn end(&self) -> Result<usize, OpeningRefusal>
-        ensures { result ≡ tested (complete self.now.bytes.now self.now.at ∷ [])
+        ensures answer { result ≡ tested (complete self.now.bytes.now self.now.at ∷ [])
             (Ok (chunk_end self.now.bytes.now self.now.at)) }
+        ensures inside { IfOk result (λ end. (end ≡ chunk_end self.now.bytes.now self.now.at)
+            × (end ≤ length self.now.bytes.now)) }
     {
         let size = self.size() as usize;
         let end = self.at + 8 + size + size % 2;
@@ -132,7 +149,7 @@ impl<'a> Chunk<'a> {
         require(passes, OpeningRefusal::WrongField(field, self.at + offset))
     }
 
-    // The fields of a format chunk: answers the rate.
+    // Tests the fields of a format chunk, and answers the rate.
     fn format_fields(&self, format: Format) -> Result<u32, OpeningRefusal>
         requires { self.now.at + 24 ≤ length self.now.bytes.now }
         ensures { result ≡ tested (field_tests format self.now.bytes.now self.now.at)
@@ -159,7 +176,9 @@ impl<'a> Chunk<'a> {
 
     // The first format chunk.
     fn format(&self, format: Format) -> Result<Step, OpeningRefusal>
-        ensures { result ≡ chunk_of ChunkKind.Format format self.now.bytes.now self.now.at None }
+        ensures answer { result
+            ≡ chunk_of ChunkKind.Format format self.now.bytes.now self.now.at None }
+        ensures inside { IfOk result (Inside self.now.bytes.now self.now.at) }
     {
         self.require(self.size() == 16, Field::FormatSize, 4)?;
         let end = self.end()?;
@@ -169,8 +188,9 @@ impl<'a> Chunk<'a> {
 
     // The data chunk behind a format.
     fn data(&self, format: Format, rate: u32) -> Result<Step, OpeningRefusal>
-        ensures { result
+        ensures answer { result
             ≡ chunk_of ChunkKind.Data format self.now.bytes.now self.now.at (Some rate) }
+        ensures inside { IfOk result (Inside self.now.bytes.now self.now.at) }
     {
         let size = self.size();
         self.require(size % u32::from(format.align) == 0, Field::DataSize, 4)?;
@@ -192,7 +212,8 @@ fn next_step(
     rate: Option<u32>,
 ) -> Result<Step, OpeningRefusal>
     requires { (at ≤ length bytes.now) × (length bytes.now < 2 ^ 33) }
-    ensures { result ≡ chunk format bytes.now at rate }
+    ensures answer { result ≡ chunk format bytes.now at rate }
+    ensures inside { IfOk result (Inside bytes.now at) }
 {
     let chunk = Chunk::at(bytes, at)?;
     match (chunk.kind(), rate) {
@@ -211,7 +232,7 @@ fn walk(bytes: &[u8], format: Format) -> Result<Found, OpeningRefusal>
 {
     let mut at = 12;
     let mut rate = None;
-    // No `for`: each chunk tells where the next begins.
+    // A `loop`, since each chunk says where the next begins.
     loop {
         match next_step(bytes, at, format, rate)? {
             Step::Onward(next, known) => {
@@ -225,6 +246,7 @@ fn walk(bytes: &[u8], format: Format) -> Result<Found, OpeningRefusal>
 
 /// Where the data of a recording of this format stands in the bytes, and the rate. Refused, 8 to 11, by the first test that
 /// fails, in byte order.
+#[tactic(auto, using(crate::proofs::Places::reached, crate::proofs::Places::stopped))]
 pub fn find_data(bytes: &[u8], format: Format) -> Result<Found, OpeningRefusal>
     ensures answer { result ≡ find_data format bytes.now }
     ensures found { IfOk result (Reached format bytes.now) }

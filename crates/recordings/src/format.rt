@@ -1,7 +1,7 @@
 // What a kind of recording fixes.
 ghost use Rattle.std.specs.Prelude.{◌<◌};
 
-use samples::exact::Exact;
+use samples::sample::Exact;
 
 /// The highest rate of a recording, in items a second; the lowest is 1.
 pub const MAX_RATE: u32 = 100_000_000;

@@ -6,8 +6,8 @@ ghost use Rattle.recordings.specs.Opening.{signal_format, gain_format};
 ghost use Rattle.recordings.specs.Items.{part_of, signal_item, gain_item};
 
 use crate::format::Format;
-use samples::converter::ConverterSample;
 use samples::gain_index::GainIndex;
+use samples::kinds::ConverterSample;
 use samples::sample::Sample;
 use sources::fault::FaultKind;
 
@@ -21,7 +21,8 @@ pub trait Layout {
     const FORMAT: Format;
 
     ghost FORMAT: { Format };
-    // the item that these bytes hold, or what is wrong with it
+
+    /// The item that these bytes hold, or what is wrong with it.
     ghost meaning: { List ℕ → Result Self.Item FaultKind };
 
     /// The item in these bytes, or what is wrong with it. A recording hands exactly `FORMAT.align` bytes.

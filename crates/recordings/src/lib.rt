@@ -1,16 +1,10 @@
-// Opened recordings: WAVE byte strings of 12-bit I/Q samples and of receive gains, as sources.
+// Opens WAVE recordings of 12-bit I/Q samples and of receive gains, and reads them as sources.
 //
-// Proved: for every byte string, what opening answers, the rate and everything that the bytes hold, or the refusal; and
-// that an opened recording is a source of exactly those items, which ends with the fault of the first that is spoilt; and
-// the same of both recordings of a link, opened by one call.
-//
-// RIFF/WAVE byte strings, up to their data.
-//
-// Proved: for every byte string and every format that a kind of recording fixes, where the data stands and at which rate,
-// or which refusal is answered with which byte place, the tests being made in byte order.
+// Proved, for every byte string: opening answers the rate and everything that the bytes hold, or a refusal with the place of
+// a byte. The tests are made in byte order, and the first that fails is the refusal. An opened recording is a source of
+// exactly those items, and ends with the fault of the first faulty one. Both recordings of a link are opened by one call.
 #![tactic(auto)]
 
-mod bytes;
 pub mod chunks;
 pub mod format;
 pub mod layout;

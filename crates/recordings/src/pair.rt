@@ -1,16 +1,15 @@
 // Both recordings of a link, the signal and its gain indices.
-ghost use Rattle.std.specs.Prelude.{◌≡◌, IfOk};
-ghost use Rattle.recordings.specs.Opening.{AsDefined};
-ghost use Rattle.recordings.specs.Pair.{input_number, link_opening};
+ghost use Rattle.std.specs.Prelude.{◌≡◌};
+ghost use Rattle.recordings.specs.Pair.{input_number, link_opening, BothOpenAs};
 ghost use Rattle.std.proofs.Common.{rules};
 
 use crate::layout::{Gains, Signal};
 use crate::recording::Recording;
 use crate::refusal::OpeningRefusal;
-use samples::exact::Exact;
+use samples::sample::Exact;
 use sources::source::Source;
 
-/// Which of the two.
+/// Which of the two recordings.
 #[derive(Clone, Copy, PartialEq, Eq, Debug)]
 pub enum Input {
     /// The signal recording, input 0.
@@ -35,7 +34,7 @@ impl Input {
     }
 }
 
-/// Both, opened.
+/// Both recordings, opened.
 #[derive(Drop)]
 pub struct LinkRecordings<'a> {
     /// Faults name it by input 0.
@@ -50,22 +49,7 @@ impl<'a> LinkRecordings<'a> {
         signal: &'a [u8],
         gain: &'a [u8],
     ) -> Result<LinkRecordings<'a>, (Input, OpeningRefusal)>
-        ensures answer { AsDefined result (link_opening signal.now gain.now) (λ x. (
-          record {
-            rate = x.signal.rate;
-            whole = ⟦<Recording<'a, Signal> as Source>⟧.whole x.signal;
-          },
-          record {
-            rate = x.gain.rate;
-            whole = ⟦<Recording<'a, Gains> as Source>⟧.whole x.gain;
-          },
-        )) }
-        ensures signal_left { IfOk result (λ x.
-            ⟦<Recording<'a, Signal> as Source>⟧.left x.signal
-            ≡ ⟦<Recording<'a, Signal> as Source>⟧.whole x.signal) }
-        ensures gain_left { IfOk result (λ x.
-            ⟦<Recording<'a, Gains> as Source>⟧.left x.gain
-            ≡ ⟦<Recording<'a, Gains> as Source>⟧.whole x.gain) }
+        ensures { BothOpenAs result (link_opening signal.now gain.now) }
     {
         let signal = Recording::open(signal, Input::Signal.number()).map_err(|e| (
             Input::Signal,

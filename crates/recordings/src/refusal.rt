@@ -3,7 +3,7 @@ ghost use Rattle.std.specs.Prelude.{◌≡◌, Some};
 ghost use Rattle.recordings.specs.Refusals.{head_place, opening_number, opening_place, head_text, field_text, opening_text};
 ghost use Rattle.std.proofs.Common.{rules};
 
-use samples::exact::Exact;
+use samples::sample::Exact;
 use std::fmt;
 
 /// A field whose value is fixed by the kind of recording; in words, what it must be.

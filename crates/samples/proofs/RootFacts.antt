@@ -1,18 +1,11 @@
 -- The root is the greatest number whose square is at most n, and there is only one such.
 use Rattle.std.proofs.Common.{◌≡◌, ℕ, zero, suc, ◌+◌, ◌*◌, ◌^◌, ◌<◌, ◌≤◌, leb, inl, inr, pow-suc, arith}
 use Rattle.std.proofs.lemmas.Nat.{mul-le}
-use Rattle.std.proofs.lemmas.Bool.{cases_order, cases_Bool, leb-true, leb-false}
+use Rattle.std.proofs.lemmas.Bool.{cases_Bool, leb-true, leb-false}
 use Rattle.samples.specs.Roots.{Root, root, root_from, grown}
 
 pub only_root : (n a b : ℕ) → Root n a → Root n b → a ≡ b
-only_root n a b p q =
-    elim (cases_order a b) [
-      | inl e ↦ e
-      | inr o ↦ elim o [
-        | inl h ↦ absurd (omega (arith, mul-le (a + 1) (a + 1) b b (omega arith) (omega arith)))
-        | inr h ↦ absurd (omega (arith, mul-le (b + 1) (b + 1) a a (omega arith) (omega arith)))
-      ]
-    ]
+only_root n a b p q = grind (arith, mul-le (a + 1) (a + 1) b b, mul-le (b + 1) (b + 1) a a)
 
 from : (b m n : ℕ) → m * m ≤ n → n < (m + 2 ^ b) * (m + 2 ^ b) → Root n (root_from b m n)
 unfolding root_from grown

@@ -1,8 +1,8 @@
 -- The item that is nearest to given numbers, for each kind.
 use Rattle.std.specs.Prelude.{ℕ, ◌≤◌, min, ℤ, pos, negsuc}
 use Rattle.std.proofs.Common.{arith}
-use Rattle.samples.specs.declared.converter.ConverterSample.{ConverterSample}
 use Rattle.samples.specs.declared.gain_index.GainIndex.{GainIndex}
+use Rattle.samples.specs.declared.kinds.ConverterSample.{ConverterSample}
 use Rattle.samples.specs.declared.kinds.WorkingSample.{WorkingSample}
 use Rattle.samples.specs.declared.kinds.AirSample.{AirSample}
 use Rattle.samples.specs.Arithmetic.{clip}

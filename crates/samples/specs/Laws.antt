@@ -4,7 +4,7 @@ use Rattle.std.proofs.Common.{arith, pow_pos}
 use Rattle.std.proofs.lemmas.Int.{ints}
 use Rattle.samples.specs.Arithmetic.{floor_by, clip, Within}
 
--- Clipping to n bits keeps order, leaves numbers in range alone and ends in range.
+-- Clipping to n bits never turns two numbers round, changes no number in range, and always ends in range.
 pub record Clips (n : ℕ) : Type 0 where
   pub ordered : (x y : ℤ) → x ≤ℤ y → clip n x ≤ℤ clip n y
   pub same : (x : ℤ) → Within n x → clip n x ≡ x

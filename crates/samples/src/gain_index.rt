@@ -1,6 +1,7 @@
-ghost use Rattle.std.specs.Prelude.{◌≤◌};
+// Gain indices.
+ghost use Rattle.std.specs.Prelude.{◌≡◌, ◌≤◌};
 
-use crate::exact::Exact;
+use crate::sample::Exact;
 
 /// Which of the 128 receive gains is meant, 0 to 127.
 #[derive(Clone, Copy, PartialEq, Eq, Debug)]
@@ -8,6 +9,19 @@ pub struct GainIndex {
     /// 0 to 127.
     pub index: u8,
     ghost within: { index ≤ 127 },
+}
+
+impl GainIndex {
+    ghost use Rattle.samples.specs.Kinds.{gain_index};
+
+    /// The index nearest to n.
+    pub fn new(n: i64) -> Self
+        ensures { result ≡ gain_index n }
+    {
+        GainIndex {
+            index: n.clamp(0, 127) as u8,
+        }
+    }
 }
 
 impl Exact for GainIndex {

@@ -1,14 +1,21 @@
-// The working and the air sample, and the makers of every kind.
+// The three kinds of sample, and their makers.
 ghost use Rattle.std.specs.Prelude.{◌≡◌};
-ghost use Rattle.samples.specs.Kinds.{converter, working, air, gain_index};
-ghost use Rattle.samples.specs.Equal.{same_sample};
-ghost use Rattle.samples.specs.Widths.{clip_same, clips};
+ghost use Rattle.samples.specs.Arithmetic.{Within};
 ghost use Rattle.std.proofs.Common.{rules, arith};
 
 use crate::arithmetic::nearest;
-use crate::converter::ConverterSample;
-use crate::gain_index::GainIndex;
 use crate::sample::Sample;
+
+/// What a converter takes and gives: 12 bits a part, -2048 to 2047.
+#[derive(Clone, Copy, PartialEq, Eq, Debug)]
+pub struct ConverterSample {
+    /// The real part.
+    pub re: i16,
+    /// The imaginary part.
+    pub im: i16,
+    ghost re_within: { Within 12 re },
+    ghost im_within: { Within 12 im },
+}
 
 /// What the stages of transmitter and channel work on: 16 bits a part, -32768 to 32767.
 #[derive(Clone, Copy, PartialEq, Eq, Debug)]
@@ -20,7 +27,7 @@ pub struct WorkingSample {
 }
 
 /// What is on the air and in the receiver: 32 bits a part, -2^31 to 2^31 - 1.
-#[derive(Clone, Copy, PartialEq, Eq, Debug)]
+#[derive(Clone, Copy, Eq, PartialEq, Debug)]
 pub struct AirSample {
     /// The real part.
     pub re: i32,
@@ -35,6 +42,10 @@ impl WorkingSample {
 
 // One impl a kind: the types of their fields differ.
 impl Sample for ConverterSample {
+    ghost use Rattle.samples.specs.Equal.{made_of_its_parts};
+    ghost use Rattle.samples.specs.Kinds.{converter};
+    ghost use Rattle.samples.specs.Widths.{clips};
+
     ghost bits = { 12 };
 
     ghost real = { λ x. x.re };
@@ -45,13 +56,13 @@ impl Sample for ConverterSample {
 
     ghost keeps = { clips 12 };
 
-    ghost word = { first_of (Prim.search rules, Prim.grind (arith, Self.row.coded.inj)) };
+    ghost word = { Prim.search rules };
 
-    ghost real_clipped = { first_of (Prim.search rules, Prim.grind (arith, Self.row.coded.inj)) };
+    ghost real_clipped = { Prim.grind (arith, Self.row.coded.inj) };
 
-    ghost imaginary_clipped = { first_of (Prim.search rules, Prim.grind (arith, Self.row.coded.inj)) };
+    ghost imaginary_clipped = { Prim.grind (arith, Self.row.coded.inj) };
 
-    ghost made_of_its_parts = { λ x r i. same_sample _ x (clip_same 12 x.re r) (clip_same 12 x.im i) };
+    ghost made_of_its_parts = { made_of_its_parts };
 
     ghost equal_in_both = { Prim.search rules };
 
@@ -72,6 +83,9 @@ impl Sample for ConverterSample {
 }
 
 impl Sample for WorkingSample {
+    ghost use Rattle.samples.specs.Kinds.{working};
+    ghost use Rattle.samples.specs.Widths.{clips};
+
     ghost bits = { 16 };
 
     ghost real = { λ x. x.re };
@@ -109,6 +123,9 @@ impl Sample for WorkingSample {
 }
 
 impl Sample for AirSample {
+    ghost use Rattle.samples.specs.Kinds.{air};
+    ghost use Rattle.samples.specs.Widths.{clips};
+
     ghost bits = { 32 };
 
     ghost real = { λ x. x.re };
@@ -142,16 +159,5 @@ impl Sample for AirSample {
 
     fn im(self) -> i32 {
         self.im
-    }
-}
-
-impl GainIndex {
-    /// The index nearest to n.
-    pub fn new(n: i64) -> Self
-        ensures { result ≡ gain_index n }
-    {
-        GainIndex {
-            index: n.clamp(0, 127) as u8,
-        }
     }
 }

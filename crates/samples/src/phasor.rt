@@ -64,6 +64,7 @@ pub fn phasor(n: u16) -> (i16, i16)
 }
 
 /// The index of the phasor for a phase of 2^48 a turn.
+#[tactic(auto, unfolding(crate::specs::Phases::index_48))]
 pub fn index_48(phase: u64) -> u16
     ensures { result ≡ index_48 phase }
 {

@@ -1,56 +1,37 @@
--- A record of the numbers that were given is what the check accepts: the record's own ranges say that they are inside.
-use Rattle.std.proofs.Common.{◌≡◌, ℕ, ◌<◌, ◌≤◌, ℤ, pos, negsuc, ◌≤ℤ◌, Ok, ap, subst}
+-- A record is what the check of its numbers accepts: its own ranges say that they are inside.
+use Rattle.std.proofs.Common.{◌≡◌, ℤ, pos, negsuc, Ok, ap, ◌∙◌}
 use native.Mathlib.Decide.{dec_lt}
+use denote.Struct.Props.{props}
 use Rattle.stages.specs.declared.gain.Gain.{Gain}
 use Rattle.stages.specs.declared.clock_offset.ClockOffset.{ClockOffset}
-use Rattle.stages.specs.declared.seeds.Seeds.{Seeds}
+use Rattle.stages.specs.declared.noise.Seeds.{Seeds}
 use Rattle.stages.specs.declared.frequency_offset.FrequencyOffset.{FrequencyOffset}
 use Rattle.stages.specs.declared.scaling.Scaling.{Scaling}
-use Rattle.settings.specs.declared.refusal.SettingRefusal.TheVariants.{ScaleOutside, GainOutside, ClockOutside, SeedZero, FrequencyOutside}
 use Rattle.settings.specs.Checks.{checked_scale, checked_gain, checked_clock, checked_frequency, checked_seeds}
-use Rattle.settings.specs.Decisions.{both, between, between_ℤ, checked}
-use Rattle.settings.proofs.Equal.{same_scale, same_gain, same_clock, same_frequency, same_seeds}
+use Rattle.settings.specs.Decisions.{both, between, between_ℤ}
+use Rattle.settings.proofs.Decided.{made}
 
-pub made : {P X E : Type 0} (d : Dec P) (make : P → X) (e : E) (x : X) → P → ((p : P) → x ≡ make p) → Ok x ≡ checked d make e
-made (yes q) make e x p same = ap Ok (same q)
-made (no n) make e x p same = absurd (n p)
+pub scale_made : (s : Scaling) → Ok s ≡ checked_scale s.factor
+scale_made s = made (between 1 s.factor 32767) _ _ (s.low, s.high) (hlevel props)
 
-pub scale_made : (s : Scaling) (f : ℕ) → s.factor ≡ f → Ok s ≡ checked_scale f
-scale_made s f e =
-    made (between 1 f 32767) _ ScaleOutside s (subst (λ x. (1 ≤ x) × (x ≤ 32767)) e (s.low, s.high)) (λ h. same_scale s _ e)
-
-pub gain_made : (g : Gain) (s : ℤ) (f : ℕ) → g.shift ≡ s → g.factor ≡ f → Ok g ≡ checked_gain s f
-gain_made g s f p q =
-    let l : (negsuc 31 ≤ℤ s) × (s ≤ℤ pos 18) = subst (λ x. (negsuc 31 ≤ℤ x) × (x ≤ℤ pos 18)) p (g.shift_low, g.shift_high) in
-    let h : (128 ≤ f) × (f ≤ 255) = subst (λ x. (128 ≤ x) × (x ≤ 255)) q (g.factor_low, g.factor_high) in
-    made (both (between_ℤ (negsuc 31) s (pos 18)) (between 128 f 255)) _ GainOutside g (l, h) (λ k. same_gain g _ p q)
+pub gain_made : (g : Gain) (s : ℤ) → g.shift ≡ s → Ok g ≡ checked_gain s g.factor
+gain_made g s e =
+    made
+    (both (between_ℤ (negsuc 31) g.shift (pos 18)) (between 128 g.factor 255))
+    _
+    _
+    ((g.shift_low, g.shift_high), (g.factor_low, g.factor_high))
+    (hlevel props)
+    ∙ ap (λ (z : ℤ). checked_gain z g.factor) e
 
 pub clock_made : (o : ClockOffset) (c : ℤ) → o.c ≡ c → Ok o ≡ checked_clock c
 clock_made o c e =
-    made
-    (between_ℤ (negsuc 9007199254739) c (pos 9007199254740))
-    _
-    ClockOutside
-    o
-    (subst (λ x. (negsuc 9007199254739 ≤ℤ x) × (x ≤ℤ pos 9007199254740)) e (o.low, o.high))
-    (λ h. same_clock o _ e)
+    made (between_ℤ (negsuc 9007199254739) o.c (pos 9007199254740)) _ _ (o.low, o.high) (hlevel props) ∙ ap checked_clock e
 
 pub frequency_made : (o : FrequencyOffset) (f : ℤ) → o.f ≡ f → Ok o ≡ checked_frequency f
 frequency_made o f e =
-    made
-    (between_ℤ (negsuc 140737488355327) f (pos 140737488355327))
-    _
-    FrequencyOutside
-    o
-    (subst (λ x. (negsuc 140737488355327 ≤ℤ x) × (x ≤ℤ pos 140737488355327)) e (o.low, o.high))
-    (λ h. same_frequency o _ e)
+    made (between_ℤ (negsuc 140737488355327) o.f (pos 140737488355327)) _ _ (o.low, o.high) (hlevel props)
+    ∙ ap checked_frequency e
 
-pub seeds_made : (s : Seeds) (re im : ℕ) → s.re ≡ re → s.im ≡ im → Ok s ≡ checked_seeds re im
-seeds_made s re im p q =
-    made
-    (both (dec_lt 0 re) (dec_lt 0 im))
-    _
-    SeedZero
-    s
-    (subst (λ x. 0 < x) p s.re_moves, subst (λ x. 0 < x) q s.im_moves)
-    (λ h. same_seeds s _ p q)
+pub seeds_made : (s : Seeds) → Ok s ≡ checked_seeds s.re s.im
+seeds_made s = made (both (dec_lt 0 s.re) (dec_lt 0 s.im)) _ _ (s.re_moves, s.im_moves) (hlevel props)

@@ -2,5 +2,4 @@ pub mod Accepted
 pub mod Calls
 pub mod Decided
 pub mod Equal
-pub mod Filled
 pub mod Listed

@@ -1,16 +1,18 @@
 -- The settings with one group of them changed and all else as it was, and what a setting call answers and leaves.
-use Rattle.std.specs.Prelude.{ℕ, Bool, ℤ, Ok, Err, Result, slice_set}
-use Rattle.stages.specs.declared.balance.Balance.{Balance}
+use Rattle.std.specs.Prelude.{ℕ, Bool, List, ℤ, Ok, Err, Result, slice_set}
+use Rattle.stages.specs.declared.imbalance.Balance.{Balance}
 use Rattle.stages.specs.declared.gain.Gain.{Gain}
-use Rattle.stages.specs.declared.offset.Offset.{Offset}
+use Rattle.stages.specs.declared.dc_offset.Offset.{Offset}
 use Rattle.stages.specs.declared.clock_offset.ClockOffset.{ClockOffset}
-use Rattle.stages.specs.declared.seeds.Seeds.{Seeds}
-use Rattle.stages.specs.declared.table.AmplifierTable.{AmplifierTable}
+use Rattle.stages.specs.declared.noise.Seeds.{Seeds}
+use Rattle.stages.specs.declared.amplifier.AmplifierTable.{AmplifierTable}
 use Rattle.stages.specs.declared.frequency_offset.FrequencyOffset.{FrequencyOffset}
-use Rattle.stages.specs.declared.paths.Paths.{Paths}
+use Rattle.stages.specs.declared.multipath.Paths.{Paths}
 use Rattle.settings.specs.declared.refusal.SettingRefusal.{SettingRefusal}
 use Rattle.stages.specs.declared.scaling.Scaling.{Scaling}
 use Rattle.settings.specs.declared.settings.Settings.{Settings}
+use Rattle.settings.specs.Checks.{checked_receive_gain}
+use Rattle.settings.specs.Lists.{checked_table}
 
 -- what a setting call answers: the refusal, or nothing
 abbrev pub answer : {X : Type 0} → Result X SettingRefusal → Result (Unit {0}) SettingRefusal
@@ -89,3 +91,11 @@ with_rx_dc new s = record s { rx_dc = new }
 -- the receiver's imbalance changed
 abbrev pub with_rx_imbalance : Balance → Settings → Settings
 with_rx_imbalance new s = record s { rx_imbalance = new }
+
+-- after a call that sets the amplifier's table
+abbrev pub after_table : List ℕ → List ℤ → Settings → Settings
+after_table amps phases = after (checked_table amps phases) with_amplifier
+
+-- after a call that sets a receive gain
+abbrev pub after_receive_gain : ℕ → ℤ → ℕ → Settings → Settings
+after_receive_gain index shift factor = after (checked_receive_gain index shift factor) (with_receive_gain index)

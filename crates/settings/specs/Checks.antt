@@ -4,7 +4,7 @@ use Rattle.std.specs.Prelude.{ℕ, cond, ℤ, pos, negsuc, Err, Result, nat_lt}
 use Rattle.std.proofs.Math.Decide.{dec_lt}
 use Rattle.stages.specs.declared.gain.Gain.{Gain}
 use Rattle.stages.specs.declared.clock_offset.ClockOffset.{ClockOffset}
-use Rattle.stages.specs.declared.seeds.Seeds.{Seeds}
+use Rattle.stages.specs.declared.noise.Seeds.{Seeds}
 use Rattle.stages.specs.declared.frequency_offset.FrequencyOffset.{FrequencyOffset}
 use Rattle.settings.specs.declared.refusal.SettingRefusal.{SettingRefusal}
 use Rattle.settings.specs.declared.refusal.SettingRefusal.TheVariants.{ScaleOutside, GainOutside, ClockOutside, SeedZero, FrequencyOutside, IndexOver}

@@ -33,11 +33,10 @@ abbrev pub checked : {P X E : Type 0} → Dec P → (P → X) → E → Result X
 checked (yes p) make e = Ok (make p)
 checked (no n) make e = Err e
 
--- the first fact or its refusal, then the second or its refusal
-abbrev pub checked_both : {P Q X E : Type 0} → Dec P → E → Result Q E → (P → Q → X) → Result X E
-checked_both (no n) e q make = Err e
-checked_both (yes p) e (Err f) make = Err f
-checked_both (yes p) e (Ok q) make = Ok (make p q)
+-- what is made of two facts, or else their refusal
+abbrev pub made_of : {P Q X E : Type 0} → Result (P × Q) E → (P → Q → X) → Result X E
+made_of (Ok h) make = Ok (make h.0 h.1)
+made_of (Err e) make = Err e
 
 -- the two facts, or the refusal of the first that fails
 abbrev pub also : {P Q E : Type 0} → Dec P → E → Result Q E → Result (P × Q) E
@@ -49,3 +48,7 @@ also (yes p) e (Ok q) = Ok (p, q)
 abbrev pub each_checked : {X E : Type 0} {P : X → Type 0} → ((x : X) → Dec (P x)) → (ℕ → E) → ℕ → (xs : List X) → Result (AllByRecursion P xs) E
 each_checked decide refusal k [] = Ok tt
 each_checked decide refusal k (x ∷ xs) = also (decide x) (refusal k) (each_checked decide refusal (k + 1) xs)
+
+-- what is made of a fact of the whole list and of the fact of each element, or else the first refusal
+abbrev pub checked_list : {P X Y E : Type 0} {Q : X → Type 0} → Dec P → E → ((x : X) → Dec (Q x)) → (ℕ → E) → (xs : List X) → (P → AllByRecursion Q xs → Y) → Result Y E
+checked_list whole refusal decide each xs make = made_of (also whole refusal (each_checked decide each 0 xs)) make

@@ -3,13 +3,13 @@ use Rattle.std.specs.Prelude.{true, replicate, pos}
 use Rattle.std.proofs.Common.{lit<, lit≤}
 use Rattle.std.proofs.lemmas.List.{length-replicate}
 use Rattle.std.specs.Int.Signed.{le_z_yes}
-use Rattle.stages.specs.Levels.{unity}
+use Rattle.stages.specs.Gain.{unity}
 use Rattle.stages.specs.Multipath.{neutral_path}
-use Rattle.stages.specs.declared.balance.Balance.{Balance}
-use Rattle.stages.specs.declared.entry.Entry.{Entry}
-use Rattle.stages.specs.declared.offset.Offset.{Offset}
-use Rattle.stages.specs.declared.table.AmplifierTable.{AmplifierTable}
-use Rattle.stages.specs.declared.paths.Paths.{Paths}
+use Rattle.stages.specs.declared.imbalance.Balance.{Balance}
+use Rattle.stages.specs.declared.amplifier.Entry.{Entry}
+use Rattle.stages.specs.declared.dc_offset.Offset.{Offset}
+use Rattle.stages.specs.declared.amplifier.AmplifierTable.{AmplifierTable}
+use Rattle.stages.specs.declared.multipath.Paths.{Paths}
 use Rattle.settings.specs.declared.settings.Settings.{Settings}
 
 -- no offset
@@ -39,7 +39,7 @@ one_path =
       high = lit≤ tt;
     }
 
--- scale 256, amplitudes 32767, seeds 1, gains (1, 128), imbalance and path neutral, both bypass switches on, all else 0
+-- what one begins with: factors of 1, no offset and no delay, amplifier and clock stage left out, and noise seeds of 1
 abbrev pub fresh : Settings
 fresh =
     record {

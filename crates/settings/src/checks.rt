@@ -1,21 +1,19 @@
-// From plain numbers to the records that carry their ranges, or to a refusal. Functions, not TryFrom: most take several
-// numbers, and the records stand in the crates below.
+// From plain numbers to the records that carry their ranges, or to a refusal. Functions, not
+// TryFrom: most take several numbers, and the records stand in the crates below.
 ghost use Rattle.std.specs.Prelude.{◌≡◌, ◌≤◌, OnOk};
 ghost use Rattle.settings.specs.Checks.{checked_scale, checked_gain, checked_clock, checked_frequency, checked_seeds, checked_receive_gain};
 ghost use Rattle.settings.specs.Lists.{checked_paths, checked_table};
 
 use crate::neutral::{FULL_ENTRY, NEUTRAL_PATH};
-use crate::paths::RawPath;
 use crate::refusal::SettingRefusal;
+use crate::settings::RawPath;
+use stages::amplifier::{AmplifierTable, Entry};
 use stages::clock_offset::ClockOffset;
-use stages::entry::Entry;
 use stages::frequency_offset::FrequencyOffset;
 use stages::gain::Gain;
-use stages::path::Path;
-use stages::paths::Paths;
+use stages::multipath::{Path, Paths};
+use stages::noise::Seeds;
 use stages::scaling::Scaling;
-use stages::seeds::Seeds;
-use stages::table::AmplifierTable;
 
 // 1 to 32767.
 pub(crate) fn checked_scale(factor: u16) -> Result<Scaling, SettingRefusal>
@@ -85,8 +83,8 @@ pub(crate) fn checked_seeds(re: u32, im: u32) -> Result<Seeds, SettingRefusal>
     Ok(Seeds { re, im })
 }
 
-// 1 to 10 paths, each with a delay of at most 63. Places that are not in use hold neutral paths, so that settings with
-// the same paths are the same.
+// 1 to 10 paths, each with a delay of at most 63. Places that are not in use hold neutral paths, so
+// that settings with the same paths are the same.
 pub(crate) fn checked_paths(given: &[RawPath]) -> Result<Paths, SettingRefusal>
     ensures { result ≡ checked_paths given.now }
 {
@@ -95,7 +93,7 @@ pub(crate) fn checked_paths(given: &[RawPath]) -> Result<Paths, SettingRefusal>
         return Err(SettingRefusal::PathOutside { path: 10 });
     }
     let mut places = [NEUTRAL_PATH; 10];
-    // The place is counted, since a refusal tells it.
+    // The place is counted, since a refusal reports it.
     for (i, p) in given.iter().enumerate() {
         if p.delay > 63 {
             return Err(SettingRefusal::PathOutside { path: i as u8 });
@@ -109,7 +107,8 @@ pub(crate) fn checked_paths(given: &[RawPath]) -> Result<Paths, SettingRefusal>
     Ok(Paths { places, count })
 }
 
-// 513 amplitudes of at most 32767, and 513 phases. Two lists, not entries: one that is too short or too long is refused.
+// 513 amplitudes of at most 32767, and 513 phases. Two lists, not entries: one that is too short or
+// too long is refused.
 pub(crate) fn checked_table(
     amplitudes: &[u16],
     phases: &[i16],
@@ -120,7 +119,7 @@ pub(crate) fn checked_table(
         return Err(SettingRefusal::EntryOutside { entry: 513 });
     }
     let mut entries = [FULL_ENTRY; 513];
-    // The place is counted, since a refusal tells it; the phase is taken from there too.
+    // The place is counted, since a refusal reports it; the phase is taken from there too.
     for (i, amplitude) in amplitudes.iter().enumerate() {
         if *amplitude > 32767 {
             return Err(SettingRefusal::EntryOutside { entry: i as u16 });

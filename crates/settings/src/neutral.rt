@@ -1,7 +1,7 @@
 // Settings that change nothing.
-use stages::entry::Entry;
+use stages::amplifier::Entry;
 use stages::gain::Gain;
-use stages::path::Path;
+use stages::multipath::Path;
 
 // The signal itself: coefficient 1, no delay.
 pub(crate) const NEUTRAL_PATH: Path = Path {

@@ -3,7 +3,7 @@ ghost use Rattle.std.specs.Prelude.{◌≡◌, Some};
 ghost use Rattle.std.proofs.Common.{rules};
 ghost use Rattle.settings.specs.Refusals.{setting_number, setting_text};
 
-use samples::exact::Exact;
+use samples::sample::Exact;
 use std::fmt;
 
 /// Why a setting call is refused: which of its numbers is outside its range.
@@ -13,10 +13,10 @@ pub enum SettingRefusal {
     ScaleOutside,
     /// A gain's shift is outside -32 to 18, or its factor outside 128 to 255.
     GainOutside,
-    /// There are not 1 to 10 paths, told as path 10; or this is the first path, 0 to 9, with a delay
-    /// over 63.
+    /// There are not 1 to 10 paths, reported as path 10; or this is the first path, 0 to 9, with a
+    /// delay over 63.
     PathOutside { path: u8 },
-    /// A list is not 513 long, told as entry 513; or this is the first entry, 0 to 512, with an
+    /// A list is not 513 long, reported as entry 513; or this is the first entry, 0 to 512, with an
     /// amplitude over 32767.
     EntryOutside { entry: u16 },
     /// The clock offset is beyond 9,007,199,254,740, up or down.

@@ -1,6 +1,6 @@
 // The settings of the standard chain.
 ghost use Rattle.std.specs.Prelude.{◌≡◌};
-ghost use Rattle.settings.specs.Changes.{answer, after, offset, balance, with_scale, with_tx_dc, with_tx_imbalance, with_amplifier, with_amplifier_bypass, with_paths, with_frequency, with_clock, with_clock_bypass, with_gain, with_seeds, with_receive_gain, with_lead, with_rx_dc, with_rx_imbalance};
+ghost use Rattle.settings.specs.Changes.{answer, after, after_table, after_receive_gain, offset, balance, with_scale, with_tx_dc, with_tx_imbalance, with_amplifier_bypass, with_paths, with_frequency, with_clock, with_clock_bypass, with_gain, with_seeds, with_lead, with_rx_dc, with_rx_imbalance};
 ghost use Rattle.settings.specs.Checks.{checked_scale, checked_frequency, checked_clock, checked_gain, checked_seeds, checked_receive_gain};
 ghost use Rattle.settings.specs.Firsts.{PathsAnswer, TableAnswer};
 ghost use Rattle.settings.specs.Fresh.{fresh};
@@ -11,20 +11,31 @@ use crate::checks::{
     checked_scale, checked_seeds, checked_table,
 };
 use crate::neutral::{FULL_ENTRY, NEUTRAL_PATH, UNIT_GAIN};
-use crate::paths::RawPath;
 use crate::refusal::SettingRefusal;
-use stages::balance::Balance;
+use stages::amplifier::AmplifierTable;
 use stages::clock_offset::ClockOffset;
+use stages::dc_offset::Offset;
 use stages::frequency_offset::FrequencyOffset;
 use stages::gain::Gain;
-use stages::offset::Offset;
-use stages::paths::Paths;
+use stages::imbalance::Balance;
+use stages::multipath::Paths;
+use stages::noise::Seeds;
 use stages::scaling::Scaling;
-use stages::seeds::Seeds;
-use stages::table::AmplifierTable;
 
-/// The settings of the standard chain: one plain struct, whose fields carry their own ranges. It is changed by the calls below, and a stage that is made from
-/// it copies what it needs.
+/// A path as it is given to the settings: a complex coefficient, 8192 for 1, and a delay in samples
+/// that is not yet checked.
+#[derive(Clone, Copy, PartialEq, Eq, Debug)]
+pub struct RawPath {
+    /// The coefficient's real part, 8192 for 1.
+    pub re: i16,
+    /// Its imaginary part.
+    pub im: i16,
+    /// In samples; 0 to 63 is accepted.
+    pub delay: u16,
+}
+
+/// The settings of the standard chain: one plain struct, whose fields carry their own ranges. It is
+/// changed by the calls below, and a stage that is made from it copies what it needs.
 #[derive(Clone, Copy)]
 pub struct Settings {
     // Transmitter.
@@ -36,7 +47,8 @@ pub struct Settings {
     pub tx_imbalance: Balance,
     /// The amplifier's table.
     pub amplifier: AmplifierTable,
-    /// The amplifier is left out. A switch beside its table, not an Option: left out, the table stays.
+    /// The amplifier is left out. A switch beside its table, not an Option: left out, the table
+    /// stays.
     pub amplifier_bypass: bool,
     // Channel.
     /// The paths of the multipath channel, 1 to 10.
@@ -45,7 +57,8 @@ pub struct Settings {
     pub frequency: FrequencyOffset,
     /// The clock offset, in units of 2^-53 of a sample.
     pub clock: ClockOffset,
-    /// The clock stage is left out. A switch beside its offset, not an Option: left out, the offset stays.
+    /// The clock stage is left out. A switch beside its offset, not an Option: left out, the offset
+    /// stays.
     pub clock_bypass: bool,
     /// The channel's gain.
     pub gain: Gain,
@@ -62,9 +75,10 @@ pub struct Settings {
     pub rx_imbalance: Balance,
 }
 
-// Each call that tests tells in `answers` and `leaves` its own test and the field that it changes.
+// Each call that tests says in `answers` and `leaves` its own test and the field that it changes.
 impl Settings {
-    /// The settings to begin with: every factor is 1, nothing is offset, the amplifier and the clock stage are left out.
+    /// The settings to begin with: every factor is 1, nothing is offset, the amplifier and the
+    /// clock stage are left out.
     pub fn fresh() -> Self
         ensures { result ≡ fresh }
     {
@@ -114,23 +128,25 @@ impl Settings {
         self.tx_dc = Offset { re, im };
     }
 
-    /// The imbalance of the transmitter: re becomes a × re + c × im and im becomes b × im, 16384 for 1. Never refused.
+    /// The imbalance of the transmitter: re becomes a × re + c × im and im becomes b × im, 16384
+    /// for 1. Never refused.
     pub fn set_tx_imbalance(&mut self, a: i16, b: i16, c: i16)
         ensures { self.new ≡ with_tx_imbalance (balance a b c) self.old }
     {
         self.tx_imbalance = Balance { a, b, c };
     }
 
-    /// The amplifier's table: 513 amplitudes, 0 to 32767, and 513 phases, 65536 a turn. Refusal 4 with an entry: 513 if
-    /// a list is not 513 long, else the first whose amplitude is over 32767. Two lists, not entries: one that is too short
-    /// or too long is refused, and entries could not show it.
+    /// The amplifier's table: 513 amplitudes, 0 to 32767, and 513 phases, 65536 a turn. Refusal 4
+    /// with an entry: 513 if a list is not 513 long, else the first whose amplitude is over 32767.
+    /// Two lists, not entries: one that is too short or too long is refused, and entries could not
+    /// show it.
     pub fn set_amplifier_table(
         &mut self,
         amplitudes: &[u16],
         phases: &[i16],
     ) -> Result<(), SettingRefusal>
         ensures answers { result ≡ answer (checked_table amplitudes.now phases.now) }
-        ensures leaves { self.new ≡ after (checked_table amplitudes.now phases.now) with_amplifier self.old }
+        ensures leaves { self.new ≡ after_table amplitudes.now phases.now self.old }
         ensures first { TableAnswer amplitudes.now phases.now result }
     {
         self.amplifier = checked_table(amplitudes, phases)?;
@@ -144,8 +160,9 @@ impl Settings {
         self.amplifier_bypass = bypass;
     }
 
-    /// All paths, in place of those before: coefficients 8192 for 1, delays in samples. Refusal 3 with a path number: 10 if there are not 1 to 10 paths, else the
-    /// first whose delay is over 63.
+    /// All paths, in place of those before: coefficients 8192 for 1, delays in samples. Refusal 3
+    /// with a path number: 10 if there are not 1 to 10 paths, else the first whose delay is over
+    /// 63.
     pub fn set_paths(&mut self, given: &[RawPath]) -> Result<(), SettingRefusal>
         ensures answers { result ≡ answer (checked_paths given.now) }
         ensures leaves { self.new ≡ after (checked_paths given.now) with_paths self.old }
@@ -155,7 +172,8 @@ impl Settings {
         Ok(())
     }
 
-    /// The frequency offset, in units of 2^-48 of a turn a sample, positive where the receiver's carrier is the higher. Refusal 7: outside -2^47 to 2^47 - 1.
+    /// The frequency offset, in units of 2^-48 of a turn a sample, positive where the receiver's
+    /// carrier is the higher. Refusal 7: outside -2^47 to 2^47 - 1.
     pub fn set_frequency(&mut self, f: i64) -> Result<(), SettingRefusal>
         ensures answers { result ≡ answer (checked_frequency f) }
         ensures leaves { self.new ≡ after (checked_frequency f) with_frequency self.old }
@@ -164,7 +182,8 @@ impl Settings {
         Ok(())
     }
 
-    /// The clock offset, in units of 2^-53 of a sample, positive where the receiver's clock is the slower. Refusal 5: beyond 9,007,199,254,740, up or down.
+    /// The clock offset, in units of 2^-53 of a sample, positive where the receiver's clock is the
+    /// slower. Refusal 5: beyond 9,007,199,254,740, up or down.
     pub fn set_clock(&mut self, c: i64) -> Result<(), SettingRefusal>
         ensures answers { result ≡ answer (checked_clock c) }
         ensures leaves { self.new ≡ after (checked_clock c) with_clock self.old }
@@ -180,7 +199,8 @@ impl Settings {
         self.clock_bypass = bypass;
     }
 
-    /// The channel's gain, factor × 2^(shift - 8). Refusal 2: shift outside -32 to 18, or factor outside 128 to 255.
+    /// The channel's gain, factor × 2^(shift - 8). Refusal 2: shift outside -32 to 18, or factor
+    /// outside 128 to 255.
     pub fn set_gain(&mut self, shift: i16, factor: u16) -> Result<(), SettingRefusal>
         ensures answers { result ≡ answer (checked_gain shift factor) }
         ensures leaves { self.new ≡ after (checked_gain shift factor) with_gain self.old }
@@ -198,7 +218,8 @@ impl Settings {
         Ok(())
     }
 
-    /// One of the 128 receive gains, changed where it stands. Refusal 13: index over 127; else 2, as for the channel's.
+    /// One of the 128 receive gains, changed where it stands. Refusal 13: index over 127; else 2,
+    /// as for the channel's.
     pub fn set_receive_gain(
         &mut self,
         index: u8,
@@ -206,7 +227,7 @@ impl Settings {
         factor: u16,
     ) -> Result<(), SettingRefusal>
         ensures answers { result ≡ answer (checked_receive_gain index shift factor) }
-        ensures leaves { self.new ≡ after (checked_receive_gain index shift factor) (with_receive_gain index) self.old }
+        ensures leaves { self.new ≡ after_receive_gain index shift factor self.old }
     {
         self.receive_gains[index as usize] = checked_receive_gain(index, shift, factor)?;
         Ok(())

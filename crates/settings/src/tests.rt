@@ -1,11 +1,10 @@
 // The edges of every range, and what a refusal says.
-use crate::paths::RawPath;
 use crate::refusal::SettingRefusal;
-use crate::settings::Settings;
+use crate::settings::{RawPath, Settings};
 use std::test::Fail;
 
-// What a call answered, as its number, 0 for none.
-fn told(answer: Result<(), SettingRefusal>) -> u8 {
+// The number of the refusal that a call answered, 0 for none.
+fn number_of(answer: Result<(), SettingRefusal>) -> u8 {
     match answer {
         Ok(()) => 0,
         Err(refusal) => refusal.number(),
@@ -16,7 +15,7 @@ fn told(answer: Result<(), SettingRefusal>) -> u8 {
 fn numbers_at_the_limits(rt: HostRuntime) {
     let mut s = Settings::fresh();
     for (factor, number) in [(0, 1), (1, 0), (32767, 0), (32768, 1)] {
-        assert_eq!(rt; told(s.set_scale(factor)), number);
+        assert_eq!(rt; number_of(s.set_scale(factor)), number);
     }
     for (shift, factor, number) in [
         (-33, 128, 2),
@@ -26,7 +25,7 @@ fn numbers_at_the_limits(rt: HostRuntime) {
         (0, 127, 2),
         (0, 256, 2),
     ] {
-        assert_eq!(rt; told(s.set_gain(shift, factor)), number);
+        assert_eq!(rt; number_of(s.set_gain(shift, factor)), number);
     }
     for (c, number) in [
         (-9_007_199_254_741, 5),
@@ -34,7 +33,7 @@ fn numbers_at_the_limits(rt: HostRuntime) {
         (9_007_199_254_740, 0),
         (9_007_199_254_741, 5),
     ] {
-        assert_eq!(rt; told(s.set_clock(c)), number);
+        assert_eq!(rt; number_of(s.set_clock(c)), number);
     }
     for (f, number) in [
         (-140_737_488_355_329, 7),
@@ -42,13 +41,13 @@ fn numbers_at_the_limits(rt: HostRuntime) {
         (140_737_488_355_327, 0),
         (140_737_488_355_328, 7),
     ] {
-        assert_eq!(rt; told(s.set_frequency(f)), number);
+        assert_eq!(rt; number_of(s.set_frequency(f)), number);
     }
     for (re, im, number) in [(0, 1, 6), (1, 0, 6), (1, 1, 0)] {
-        assert_eq!(rt; told(s.set_seeds(re, im)), number);
+        assert_eq!(rt; number_of(s.set_seeds(re, im)), number);
     }
     for (index, factor, number) in [(127, 128, 0), (127, 127, 2), (128, 128, 13), (128, 127, 13)] {
-        assert_eq!(rt; told(s.set_receive_gain(index, 0, factor)), number);
+        assert_eq!(rt; number_of(s.set_receive_gain(index, 0, factor)), number);
     }
 }
 

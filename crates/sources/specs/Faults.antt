@@ -19,3 +19,7 @@ kind_text (Other number) = codes "fault " ++ decimal number
 -- its number, the input that has it, and the item there
 abbrev pub fault_text : Fault → List ℕ
 fault_text f = codes "fault " ++ (decimal (fault_number f.kind) ++ (codes " input " ++ (decimal f.input ++ (codes " item " ++ decimal f.item))))
+
+-- its number, and the item
+abbrev pub at_item_text : Fault → List ℕ
+at_item_text f = codes "fault " ++ (decimal (fault_number f.kind) ++ (codes " at item " ++ decimal f.item))

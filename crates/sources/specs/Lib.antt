@@ -1,3 +1,4 @@
+pub mod Differences
 pub mod Faults
 pub mod Meanings
 pub mod Places

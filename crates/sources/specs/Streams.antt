@@ -32,9 +32,17 @@ tail (x ∷ xs) = xs
 abbrev pub rest : {T : Type 0} → Stream T → Stream T
 rest s = record { items = tail s.items; ending = s.ending }
 
+-- a source of the whole w that stands at its start has all of it left
+abbrev pub AtStart : {T : Type 0} → Stream T → Stream T → Stream T → Type 0
+AtStart whole left w = (whole ≡ w) × (left ≡ w)
+
 -- what a stream has behind its first n items
 abbrev pub from : {T : Type 0} → ℕ → Stream T → Stream T
 from n s = record { items = drop n s.items; ending = s.ending }
+
+-- what is left when all of it was taken: no item, and the ending as it was
+abbrev pub passed_over : {T : Type 0} → Stream T → Stream T
+passed_over s = record { items = []; ending = s.ending }
 
 -- f k, f (k + 1), .. : n items
 abbrev pub tabulate : {T : Type 0} → (ℕ → T) → ℕ → ℕ → List T

@@ -7,8 +7,8 @@ abbrev pub each : {A B : Type 0} → (A → B) → Stream A → Stream B
 each f s = record { items = map f s.items; ending = s.ending }
 
 -- the items are what f makes of the list below
-abbrev pub remade : {A B : Type 0} → (List A → List B) → Stream A → Stream B
-remade f s = record { items = f s.items; ending = s.ending }
+abbrev pub transformed : {A B : Type 0} → (List A → List B) → Stream A → Stream B
+transformed f s = record { items = f s.items; ending = s.ending }
 
 -- a list formula gives one item for each item
 abbrev pub SameLength : {A B : Type 0} → (List A → List B) → Type 0
@@ -19,8 +19,8 @@ abbrev pub held : {T : Type 0} → ℕ → T → Stream T
 held n x = record { items = replicate n x; ending = Ok tt }
 
 -- n copies of an item, then everything below; the ending is the one below
-abbrev pub led : {T : Type 0} → ℕ → T → Stream T → Stream T
-led n x s = record { items = replicate n x ++ s.items; ending = s.ending }
+abbrev pub behind_lead : {T : Type 0} → ℕ → T → Stream T → Stream T
+behind_lead n x s = record { items = replicate n x ++ s.items; ending = s.ending }
 
 -- item k is item k of the first beside item k of the second, as long as both last
 abbrev pub zipped : {A B : Type 0} → List A → List B → List (A × B)

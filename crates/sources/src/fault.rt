@@ -1,9 +1,9 @@
 // Faults: what can be wrong with an item, and how a list of items ends.
 ghost use Rattle.std.specs.Prelude.{◌≡◌, Some};
-ghost use Rattle.sources.specs.Faults.{fault_number, fault_text, kind_text};
+ghost use Rattle.sources.specs.Faults.{at_item_text, fault_number, fault_text, kind_text};
 ghost use Rattle.std.proofs.Common.{rules};
 
-use samples::exact::Exact;
+use samples::sample::Exact;
 use std::fmt;
 
 /// What is wrong with an item.
@@ -71,6 +71,20 @@ impl fmt::Display for Fault {
         let input = self.input;
         let item = self.item;
         write!(f, "fault {number} input {input} item {item}")
+    }
+}
+
+/// A fault where it is clear whose it is, in words: `fault 12 at item 250`.
+#[derive(Clone, Copy, Debug)]
+pub struct AtItem(pub Fault);
+
+impl fmt::Display for AtItem {
+    ghost output = { λ x. Some (at_item_text x.0) };
+
+    fn fmt<W: fmt::Write>(&self, f: &mut fmt::Formatter<W>) -> fmt::Result {
+        let number = self.0.kind.number();
+        let item = self.0.item;
+        write!(f, "fault {number} at item {item}")
     }
 }
 

@@ -1,6 +1,7 @@
-// A held item: one item of any kind, handed out a number of times.
+// A held item: the same item again and again, so many times.
 ghost use Rattle.std.specs.Prelude.{◌≡◌};
 ghost use Rattle.sources.specs.Meanings.{held_whole, held_left};
+ghost use Rattle.sources.specs.Streams.{AtStart};
 ghost use Rattle.sources.specs.Wholes.{held};
 
 use crate::fault::Fault;
@@ -18,8 +19,7 @@ pub struct Held<T> {
 impl<T: Copy> Held<T> {
     /// The item `times` times, 0 to 2^32 - 1.
     pub fn new(item: T, times: u32) -> Self
-        ensures whole { ⟦<Self as Source>⟧.whole result ≡ held times item }
-        ensures left { ⟦<Self as Source>⟧.left result ≡ held times item }
+        ensures { AtStart (held_whole result) (held_left result) (held times item) }
     {
         Held {
             item,

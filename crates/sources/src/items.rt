@@ -4,7 +4,7 @@ ghost use Rattle.std.specs.Iterator.{YieldsFirst, item_count};
 
 use crate::source::Source;
 
-/// The items that a source has left, one by one. How they end, the source tells after them.
+/// The items that a source has left, one by one. How they end, the source answers after them.
 #[derive(Drop)]
 pub struct Items<'a, S> {
     source: &'a mut S,
@@ -23,7 +23,10 @@ impl<'a, S: Source> Iterator for Items<'a, S> {
     type Item = S::Item;
 
     // The first item of what is left, which then loses it; the ending, the whole and the source that is asked stay.
-    ghost next_gives = { λ s r t. YieldsFirst (λ i. (S.Source.left i.source.now).items) s r t × ((S.Source.left t.source.now).ending ≡ (S.Source.left s.source.now).ending) × (S.Source.whole t.source.now ≡ S.Source.whole s.source.now) × (t.source.ghost_name ≡ s.source.ghost_name) };
+    ghost next_gives = { λ s r t. YieldsFirst (λ i. (S.Source.left i.source.now).items) s r t
+        × ((S.Source.left t.source.now).ending ≡ (S.Source.left s.source.now).ending)
+        × (S.Source.whole t.source.now ≡ S.Source.whole s.source.now)
+        × (t.source.ghost_name ≡ s.source.ghost_name) };
 
     ghost remaining = { item_count (λ i. (S.Source.left i.source.now).items) };
 

@@ -1,7 +1,8 @@
 // A lead: copies of a given item, then what is below.
 ghost use Rattle.std.specs.Prelude.{◌≡◌};
 ghost use Rattle.sources.specs.Meanings.{lead_whole, lead_left};
-ghost use Rattle.sources.specs.Wholes.{led};
+ghost use Rattle.sources.specs.Streams.{AtStart};
+ghost use Rattle.sources.specs.Wholes.{behind_lead};
 
 use crate::fault::Fault;
 use crate::held::Held;
@@ -17,8 +18,8 @@ pub struct Lead<S: Source> {
 impl<S: Source> Lead<S> {
     /// The item `copies` times, 0 to 65535, then the whole below.
     pub fn new(copies: u16, item: S::Item, mut below: S) -> Self
-        ensures whole { ⟦<Self as Source>⟧.whole result ≡ led copies item (S.Source.whole below) }
-        ensures left { ⟦<Self as Source>⟧.left result ≡ led copies item (S.Source.whole below) }
+        ensures { AtStart (lead_whole S.Source.whole result) (lead_left S.Source.left result)
+            (behind_lead copies item (S.Source.whole below)) }
     {
         below.rewind();
         Lead {

@@ -1,5 +1,7 @@
 // A lowest source: the items of a list, then an ending.
 ghost use Rattle.std.specs.Prelude.{◌≡◌};
+ghost use Rattle.sources.specs.Meanings.{listed_whole, listed_left};
+ghost use Rattle.sources.specs.Streams.{AtStart};
 
 use crate::fault::{Ending, Fault};
 use crate::source::Source;
@@ -15,8 +17,8 @@ pub struct Listed<'a, T> {
 impl<'a, T: Copy> Listed<'a, T> {
     /// Hands out every item of the list, then ends so.
     pub fn new(items: &'a [T], ending: Ending) -> Self
-        ensures whole { ⟦<Listed<'a, T> as Source>⟧.whole result ≡ record { items = items.now; ending = ending } }
-        ensures left { ⟦<Listed<'a, T> as Source>⟧.left result ≡ record { items = items.now; ending = ending } }
+        ensures { AtStart (listed_whole result) (listed_left result)
+            (record { items = items.now; ending = ending }) }
     {
         Listed {
             whole: items,
@@ -29,9 +31,9 @@ impl<'a, T: Copy> Listed<'a, T> {
 impl<'a, T: Copy> Source for Listed<'a, T> {
     type Item = T;
 
-    ghost whole = { λ s. record { items = s.whole.now; ending = s.ending } };
+    ghost whole = { listed_whole };
 
-    ghost left = { λ s. record { items = s.left.now; ending = s.ending } };
+    ghost left = { listed_left };
 
     fn next(&mut self) -> Result<Option<T>, Fault> {
         let Some((item, rest)) = self.left.split_first() else {

@@ -1,6 +1,6 @@
 // A pairing: two sources side by side, item by item. What is done with a pair is a stage over the pairing.
 ghost use Rattle.std.specs.Prelude.{◌≡◌, []};
-ghost use Rattle.sources.specs.Streams.{answer, rest};
+ghost use Rattle.sources.specs.Streams.{AtStart, answer, rest};
 ghost use Rattle.sources.specs.Meanings.{pairing_whole, pairing_left};
 ghost use Rattle.sources.specs.Wholes.{paired, kept_before};
 
@@ -19,8 +19,9 @@ pub struct Pairing<A: Source, B> {
 impl<A: Source, B: Source> Pairing<A, B> {
     /// Pairs as long as both sources last.
     pub fn new(mut first: A, mut second: B) -> Self
-        ensures whole { ⟦<Self as Source>⟧.whole result ≡ paired (A.Source.whole first) (B.Source.whole second) }
-        ensures left { ⟦<Self as Source>⟧.left result ≡ paired (A.Source.whole first) (B.Source.whole second) }
+        ensures { AtStart (pairing_whole A.Source.whole B.Source.whole result)
+            (pairing_left A.Source.left B.Source.left result)
+            (paired (A.Source.whole first) (B.Source.whole second)) }
     {
         first.rewind();
         second.rewind();
@@ -43,9 +44,12 @@ impl<A: Source, B: Source> Source for Pairing<A, B> {
     #[inline(always)]
     fn next(&mut self) -> Result<Option<(A::Item, B::Item)>, Fault>
         ensures answers { result ≡ answer (pairing_left A.Source.left B.Source.left self.old) }
-        ensures moves { pairing_left A.Source.left B.Source.left self.new ≡ rest (pairing_left A.Source.left B.Source.left self.old) }
-        ensures same { pairing_whole A.Source.whole B.Source.whole self.new ≡ pairing_whole A.Source.whole B.Source.whole self.old }
-        ensures not_asked { (kept_before self.old.kept (A.Source.left self.old.first)).items ≡ [] → self.new.second ≡ self.old.second }
+        ensures moves { pairing_left A.Source.left B.Source.left self.new
+            ≡ rest (pairing_left A.Source.left B.Source.left self.old) }
+        ensures same { pairing_whole A.Source.whole B.Source.whole self.new
+            ≡ pairing_whole A.Source.whole B.Source.whole self.old }
+        ensures not_asked { (kept_before self.old.kept (A.Source.left self.old.first)).items ≡ []
+            → self.new.second ≡ self.old.second }
     {
         let x = match self.kept {
             Some(x) => x,

@@ -2,30 +2,38 @@
 // changes at each item.
 ghost use Rattle.std.specs.Prelude.{◌≡◌, List, ◌∷◌, length};
 ghost use Rattle.sources.specs.Meanings.{scan_whole, scan_left};
-ghost use Rattle.sources.specs.Wholes.{remade, SameLength};
+ghost use Rattle.sources.specs.Streams.{AtStart};
+ghost use Rattle.sources.specs.Wholes.{transformed, SameLength};
 
 use crate::fault::Fault;
 use crate::source::Source;
 
 /// A formula with a memory of what went before.
 pub trait Memory {
+    /// The kind of item below.
     type From: Copy;
 
+    /// The kind of item that comes out.
     type To: Copy;
-    // What it makes of a list of items, from where it stands.
+
+    /// What it makes of a list of items, from where it stands.
     ghost makes: { Self → List Self.From → List Self.To };
-    // What it makes of a list of items, from its start.
+
+    /// What it makes of a list of items, from its start.
     ghost fresh: { Self → List Self.From → List Self.To };
 
+    /// What comes out for the next item, which is then remembered.
     fn step(&mut self, x: Self::From) -> Self::To
-        ensures steps { (xs : List Self.From) → makes self.old (x ∷ xs) ≡ result ∷ makes self.new xs }
+        ensures steps { (xs : List Self.From) →
+            makes self.old (x ∷ xs) ≡ result ∷ makes self.new xs }
         ensures same { fresh self.new ≡ fresh self.old };
 
+    /// Back to the start: nothing is remembered.
     fn reset(&mut self)
         ensures starts { makes self.new ≡ fresh self.old }
         ensures same { fresh self.new ≡ fresh self.old };
 
-    // one item out for each item in
+    /// One item out for each item in.
     ghost same_length: { (s : Self) (xs : List Self.From) → length (makes s xs) ≡ length xs };
 }
 
@@ -40,11 +48,12 @@ impl<S: Source, M: Memory<From = S::Item>> Scan<S, M> {
     /// The items are what the formula makes, from its start, of the items below.
     pub fn new(mut memory: M, mut below: S) -> Self
         ensures fresh { M.Memory.fresh result.memory ≡ M.Memory.fresh memory }
-        ensures starts { M.Memory.makes result.memory ≡ M.Memory.fresh memory }
-        ensures whole { S.Source.whole result.below ≡ S.Source.whole below }
-        ensures left { S.Source.left result.below ≡ S.Source.whole below }
-        ensures makes { ⟦<Self as Source>⟧.whole result ≡ remade (M.Memory.fresh memory) (S.Source.whole below) }
-        ensures remains { ⟦<Self as Source>⟧.left result ≡ remade (M.Memory.fresh memory) (S.Source.whole below) }
+        ensures reset { M.Memory.makes result.memory ≡ M.Memory.fresh memory }
+        ensures below { AtStart (S.Source.whole result.below) (S.Source.left result.below)
+            (S.Source.whole below) }
+        ensures starts { AtStart (scan_whole M.Memory.fresh S.Source.whole result)
+            (scan_left M.Memory.makes S.Source.left result)
+            (transformed (M.Memory.fresh memory) (S.Source.whole below)) }
         ensures as_many { SameLength (M.Memory.fresh memory) }
     {
         below.rewind();

@@ -10,9 +10,8 @@ mod tone;
 use samples::kinds::WorkingSample;
 use stack::tone_player;
 use stages::clock_offset::ClockOffset;
-use stages::offset::Offset;
-use stages::path::Path;
-use stages::paths::Paths;
+use stages::dc_offset::Offset;
+use stages::multipath::{Path, Paths};
 
 fn run(rt: &HostRuntime) -> anyhow::Result<()> {
     let direct = Path {

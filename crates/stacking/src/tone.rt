@@ -1,5 +1,6 @@
 // A source that a customer wrote: a tone, which ends with a fault of its own.
 ghost use Rattle.std.specs.Prelude.{◌≡◌, ◌≤◌};
+ghost use Rattle.sources.specs.Streams.{AtStart};
 ghost use Rattle.stacking.specs.Tones.{tone, tone_from, tone_sample};
 
 use samples::kinds::WorkingSample;
@@ -14,7 +15,7 @@ pub(crate) const TONE_IS_OVER: u8 = 100;
 /// The number of the tone as an input.
 pub(crate) const TONE_INPUT: u8 = 7;
 
-/// A tone of working samples, 16384 for 1. After its last sample it tells its fault.
+/// A tone of working samples, 16384 for 1. After its last sample it reports its fault.
 #[derive(Clone, Copy)]
 pub(crate) struct Tone {
     // How far a sample turns it, in 1024ths of a turn.
@@ -28,8 +29,8 @@ pub(crate) struct Tone {
 impl Tone {
     /// So many samples, 0 to 2^32 - 1, each `turn` 1024ths of a turn on.
     pub(crate) fn new(turn: u16, length: u32) -> Self
-        ensures whole { ⟦<Self as Source>⟧.whole result ≡ tone turn length }
-        ensures left { ⟦<Self as Source>⟧.left result ≡ tone turn length }
+        ensures { AtStart (tone result.turn result.length)
+            (tone_from result.turn result.length result.place) (tone turn length) }
     {
         Tone {
             turn,

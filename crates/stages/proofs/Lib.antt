@@ -1,11 +1,4 @@
-mod Clocks
 pub mod Echoing
-mod Examples
-pub mod Interpolations
-mod Outputs
+pub mod Outputs
 pub mod Peeling
-pub mod PhaseSteps
-mod Positions
-pub mod Products
-mod Steps
 mod Tables

@@ -6,7 +6,7 @@ use Rattle.samples.specs.Phases.{index_16}
 use Rattle.samples.specs.Phasors.{phasor_of}
 use Rattle.samples.specs.Roots.{root}
 use Rattle.samples.specs.declared.kinds.WorkingSample.{WorkingSample}
-use Rattle.stages.specs.declared.entry.Entry.{Entry}
+use Rattle.stages.specs.declared.amplifier.Entry.{Entry}
 use Rattle.stages.specs.Turns.{turned, divided}
 
 -- re² + im²

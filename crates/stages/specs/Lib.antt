@@ -1,9 +1,13 @@
 pub mod Amplifier
-pub mod Clock
-pub mod Frequency
-pub mod Levels
+pub mod ClockOffset
+pub mod Converter
+pub mod DcOffset
+pub mod FrequencyOffset
+pub mod Gain
+pub mod Imbalance
 pub mod Meanings
 pub mod Multipath
 pub mod Noise
+pub mod Scaling
 pub mod Turns
 pub mod Worked

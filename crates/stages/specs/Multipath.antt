@@ -6,8 +6,8 @@ use Rattle.samples.specs.Complex.{times}
 use Rattle.samples.specs.Kinds.{working, silent}
 use Rattle.samples.specs.declared.kinds.WorkingSample.{WorkingSample}
 use Rattle.sources.specs.Streams.{tabulate, length_tabulate}
-use Rattle.stages.specs.declared.path.Path.{Path}
-use Rattle.stages.specs.declared.paths.Paths.{Paths}
+use Rattle.stages.specs.declared.multipath.Path.{Path}
+use Rattle.stages.specs.declared.multipath.Paths.{Paths}
 
 -- the signal itself: coefficient 1, no delay
 abbrev pub neutral_path : Path
@@ -35,22 +35,22 @@ total_re ps x = total (λ p. echo_re p (x p.delay)) ps
 abbrev pub total_im : List Path → (ℕ → WorkingSample) → ℤ
 total_im ps x = total (λ p. echo_im p (x p.delay)) ps
 
--- what is heard: the sum over 2^13, rounded down, then clipped
-unfoldable pub heard : List Path → (ℕ → WorkingSample) → WorkingSample
-heard ps x = working (floor_by (total_re ps x) (2 ^ 13)) (floor_by (total_im ps x) (2 ^ 13))
+-- the sum of the echoes over 2^13, rounded down, then clipped
+unfoldable pub echo_sum : List Path → (ℕ → WorkingSample) → WorkingSample
+echo_sum ps x = working (floor_by (total_re ps x) (2 ^ 13)) (floor_by (total_im ps x) (2 ^ 13))
 
 -- the item d places before item k of xs; h is what went before xs, h j the item j places before its first
 abbrev pub before : (ℕ → WorkingSample) → List WorkingSample → ℕ → ℕ → WorkingSample
 before h xs k d = cond (nat_le d k) (slice_index_or xs (k - d) silent) (h (d - k - 1))
 
--- item k is what is heard at k
+-- item k is the sum of the echoes at k
 unfoldable pub echoes : List Path → (ℕ → WorkingSample) → List WorkingSample → List WorkingSample
-echoes ps h xs = tabulate (λ k. heard ps (before h xs k)) 0 (length xs)
+echoes ps h xs = tabulate (λ k. echo_sum ps (before h xs k)) 0 (length xs)
 
 -- one item out for each item in
 pub length_echoes : (ps : List Path) (h : ℕ → WorkingSample) (xs : List WorkingSample) → length (echoes ps h xs) ≡ length xs
 unfolding echoes
-length_echoes ps h xs = length_tabulate (λ k. heard ps (before h xs k)) 0 (length xs)
+length_echoes ps h xs = length_tabulate (λ k. echo_sum ps (before h xs k)) 0 (length xs)
 
 -- what goes before the start
 abbrev pub silence : ℕ → WorkingSample

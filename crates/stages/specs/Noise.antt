@@ -1,5 +1,6 @@
--- Noise: two generators of 32 bits, one a part.
-use Rattle.std.specs.Prelude.{ℕ, zero, suc, ◌+◌, ◌*◌, ◌/◌, ◌%◌, ◌^◌, ℤ, pos, ◌-ℤ◌, ◌*ℤ◌, bit_xor, count_ones, Ok}
+-- Noise: two generators of 32 bits, one a part; and noise added to the signal.
+use Rattle.std.specs.Prelude.{ℕ, zero, suc, ◌+◌, ◌*◌, ◌/◌, ◌%◌, ◌^◌, ℤ, pos, ◌+ℤ◌, ◌-ℤ◌, ◌*ℤ◌, bit_xor, count_ones, Ok}
+use Rattle.samples.specs.Kinds.{air}
 use Rattle.samples.specs.declared.kinds.AirSample.{AirSample}
 use Rattle.sources.specs.Streams.{Stream, tabulate}
 
@@ -31,3 +32,7 @@ noise_item re im k = record { re = level (steps (k + 1) re); im = level (steps (
 -- n items from the states re and im on, finished
 abbrev pub noise : ℕ → ℕ → ℕ → Stream AirSample
 noise n re im = record { items = tabulate (noise_item re im) 0 n; ending = Ok tt }
+
+-- signal and noise added
+abbrev pub summed : AirSample → AirSample → AirSample
+summed x n = air (x.re +ℤ n.re) (x.im +ℤ n.im)

@@ -8,16 +8,17 @@ use Rattle.samples.specs.declared.kinds.AirSample.{AirSample}
 use Rattle.samples.specs.declared.kinds.WorkingSample.{WorkingSample}
 use Rattle.sources.specs.Streams.{Stream, answer, rest}
 use Rattle.sources.specs.declared.fault.FaultKind.TheVariants.{LowBits}
-use Rattle.stages.specs.Clock.{outputs, clock_step}
+use Rattle.stages.specs.ClockOffset.{outputs, clock_step}
 use Rattle.stages.specs.Noise.{noise}
 use Rattle.sources.specs.Wholes.{paired}
-use Rattle.stages.specs.Levels.{scaled, gained}
+use Rattle.stages.specs.Gain.{gained}
+use Rattle.stages.specs.Scaling.{scaled}
 use Rattle.stages.specs.Multipath.{neutral_path, echoes, silence}
 use Rattle.stages.specs.declared.gain.Gain.{Gain}
-use Rattle.stages.specs.declared.path.Path.{Path}
+use Rattle.stages.specs.declared.multipath.Path.{Path}
 use Rattle.stages.specs.Amplifier.{amplified}
-use Rattle.stages.specs.Frequency.{frequency_offset}
-use Rattle.stages.specs.declared.entry.Entry.{Entry}
+use Rattle.stages.specs.FrequencyOffset.{frequency_offset}
+use Rattle.stages.specs.declared.amplifier.Entry.{Entry}
 
 -- minus n
 abbrev pub minus : ℕ → ℤ

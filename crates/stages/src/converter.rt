@@ -1,9 +1,8 @@
 // The receiver's converter: from air samples to converter samples.
 ghost use Rattle.std.specs.Prelude.{◌≡◌};
-ghost use Rattle.stages.specs.Levels.{quantized};
+ghost use Rattle.stages.specs.Converter.{quantized};
 
-use samples::converter::ConverterSample;
-use samples::kinds::AirSample;
+use samples::kinds::{AirSample, ConverterSample};
 use samples::sample::Sample;
 use sources::each::Mapping;
 

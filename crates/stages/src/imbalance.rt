@@ -1,13 +1,40 @@
 // I/Q imbalance: the two branches of a mixer differ in gain, and one leaks into the other.
 ghost use Rattle.std.specs.Prelude.{◌≡◌};
-ghost use Rattle.stages.specs.Levels.{balanced, balanced_re, balanced_im};
+ghost use Rattle.stages.specs.Imbalance.{balanced, balanced_re, balanced_im};
 
-use crate::balance::Balance;
-use crate::product::times;
-use samples::arithmetic::floor_shift;
+use samples::arithmetic::{floor_shift, times};
 use samples::sample::Sample;
 use sources::each::Mapping;
 use std::marker::PhantomData;
+
+/// The three numbers of an I/Q imbalance, 16384 for 1: re becomes a × re + c × im, and im becomes b × im.
+#[derive(Clone, Copy, PartialEq, Eq, Debug)]
+pub struct Balance {
+    /// The gain of the real branch.
+    pub a: i16,
+    /// The gain of the imaginary branch.
+    pub b: i16,
+    /// What leaks from the imaginary branch into the real one.
+    pub c: i16,
+}
+
+impl Balance {
+    // The real part, before it is clipped.
+    fn real(self, re: i32, im: i32) -> i64
+        ensures { result ≡ balanced_re self re im }
+    {
+        let own = times(i32::from(self.a), re);
+        let leaked = times(i32::from(self.c), im);
+        floor_shift(own + leaked, 14)
+    }
+
+    // The imaginary part, before it is clipped.
+    fn imaginary(self, im: i32) -> i64
+        ensures { result ≡ balanced_im self im }
+    {
+        floor_shift(times(i32::from(self.b), im), 14)
+    }
+}
 
 /// The imbalance of every sample of kind K, which stands in the type: a mapping has one kind of item.
 #[derive(Drop)]
@@ -28,33 +55,20 @@ impl<K: Sample> Imbalance<K> {
     }
 }
 
-fn balanced_re(balance: Balance, re: i32, im: i32) -> i64
-    ensures { result ≡ balanced_re balance re im }
-{
-    let own = times(i32::from(balance.a), re);
-    let leaked = times(i32::from(balance.c), im);
-    floor_shift(own + leaked, 14)
-}
-
-fn balanced_im(balance: Balance, im: i32) -> i64
-    ensures { result ≡ balanced_im balance im }
-{
-    floor_shift(times(i32::from(balance.b), im), 14)
-}
-
 impl<K: Sample> Mapping for Imbalance<K> {
     type From = K;
 
     type To = K;
 
-    ghost formula = { λ s x. balanced K.Sample.sample s.balance (K.Sample.real x) (K.Sample.imaginary x) };
+    ghost formula = { λ s x.
+        balanced K.Sample.sample s.balance (K.Sample.real x) (K.Sample.imaginary x) };
 
     #[inline(always)]
     fn apply(&self, x: K) -> K {
         let real = x.re();
         let imaginary = x.im();
-        let re = balanced_re(self.balance, real, imaginary);
-        let im = balanced_im(self.balance, imaginary);
+        let re = self.balance.real(real, imaginary);
+        let im = self.balance.imaginary(imaginary);
         K::new(re, im)
     }
 }

@@ -1,14 +1,59 @@
 // Multipath: the sum of delayed copies of the signal, each times a complex coefficient.
-ghost use Rattle.std.specs.Prelude.{◌≡◌, ◌^◌, ◌<◌, length};
+ghost use Rattle.std.specs.Prelude.{◌≡◌, ◌^◌, ◌<◌, ◌≤◌, length, take};
 ghost use Rattle.samples.specs.Bounds.{Between};
-ghost use Rattle.stages.specs.Multipath.{used, echo_re, echo_im, heard, echoes, length_echoes, silence, ring};
 
-use crate::path::Path;
-use crate::paths::Paths;
 use samples::complex::product;
 use samples::kinds::WorkingSample;
 use samples::sample::Sample;
 use sources::scan::Memory;
+
+/// One path of a multipath channel: a complex coefficient, 8192 for 1, and a delay of 0 to 63 samples.
+#[derive(Clone, Copy, PartialEq, Eq, Debug)]
+pub struct Path {
+    /// The coefficient's real part, 8192 for 1.
+    pub re: i16,
+    /// Its imaginary part.
+    pub im: i16,
+    /// In samples, 0 to 63.
+    pub delay: u8,
+    ghost delay_within: { delay ≤ 63 },
+}
+
+impl Path {
+    ghost use Rattle.stages.specs.Multipath.{echo_re, echo_im};
+
+    // The echo of sample x on this path: coefficient × x.
+    fn echo(&self, x: &WorkingSample) -> (i64, i64)
+        ensures re { result.0 ≡ echo_re self.now x.now }
+        ensures im { result.1 ≡ echo_im self.now x.now }
+        ensures re_within { Between (2 ^ 31) result.0 }
+        ensures im_within { Between (2 ^ 31) result.1 }
+    {
+        product((self.re, self.im), (x.re, x.im))
+    }
+}
+
+/// The paths of a multipath channel: the first `count` of ten places, 1 to 10. Not a `Vec`: settings hold no heap, and making
+/// them cannot run out of memory.
+#[derive(Clone, Copy)]
+pub struct Paths {
+    /// The paths, and neutral ones behind them.
+    pub places: [Path; 10],
+    /// How many are in use, 1 to 10.
+    pub count: usize,
+    ghost ten: { length places ≡ 10 },
+    ghost low: { 1 ≤ count },
+    ghost high: { count ≤ 10 },
+}
+
+impl Paths {
+    /// The paths themselves.
+    pub fn in_use(&self) -> &[Path]
+        ensures { result.now ≡ take self.now.count self.now.places }
+    {
+        &self.places[0..self.count]
+    }
+}
 
 /// The echo line is a ring of the last 64 samples, the one j places back j places behind the newest, round the end. An array
 /// and a place, not a deque: a stage holds no heap.
@@ -21,17 +66,9 @@ pub struct Multipath {
     ghost inside: { newest < 64 },
 }
 
-// The echo of sample x on a path: coefficient × x.
-fn echo(path: &Path, x: &WorkingSample) -> (i64, i64)
-    ensures re { result.0 ≡ echo_re path.now x.now }
-    ensures im { result.1 ≡ echo_im path.now x.now }
-    ensures re_within { Between (2 ^ 31) result.0 }
-    ensures im_within { Between (2 ^ 31) result.1 }
-{
-    product((path.re, path.im), (x.re, x.im))
-}
-
 impl Multipath {
+    ghost use Rattle.stages.specs.Multipath.{used, echo_sum, silence, ring};
+
     /// Starts with an empty echo line.
     pub fn new(paths: Paths) -> Self
         ensures paths { result.paths ≡ paths }
@@ -52,10 +89,11 @@ impl Multipath {
         &self.echo_line[(self.newest + delay as usize) & 63]
     }
 
-    // The sum of the echoes of all paths, rounded down and clipped once. It goes over the path records with their index, and
+    // The sum of the echoes of all paths, rounded down and clipped once. It takes the paths in order, and
     // stops behind the last that counts.
-    fn heard(&self) -> WorkingSample
-        ensures { result ≡ heard (used self.now.paths) (ring self.now.echo_line self.now.newest) }
+    fn echo_sum(&self) -> WorkingSample
+        ensures { result
+            ≡ echo_sum (used self.now.paths) (ring self.now.echo_line self.now.newest) }
     {
         let mut re: i64 = 0;
         let mut im: i64 = 0;
@@ -64,7 +102,7 @@ impl Multipath {
                 break;
             }
             let x = self.back(path.delay);
-            let (echo_re, echo_im) = echo(path, x);
+            let (echo_re, echo_im) = path.echo(x);
             re += echo_re;
             im += echo_im;
         }
@@ -73,6 +111,8 @@ impl Multipath {
 }
 
 impl Memory for Multipath {
+    ghost use Rattle.stages.specs.Multipath.{used, echoes, length_echoes, silence, ring};
+
     type From = WorkingSample;
 
     type To = WorkingSample;
@@ -87,7 +127,7 @@ impl Memory for Multipath {
     fn step(&mut self, x: WorkingSample) -> WorkingSample {
         self.newest = (self.newest + 63) & 63;
         self.echo_line[self.newest] = x;
-        self.heard()
+        self.echo_sum()
     }
 
     fn reset(&mut self) {

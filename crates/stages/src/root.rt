@@ -77,6 +77,7 @@ fn power_of(x: WorkingSample) -> u32
 }
 
 // The magnitude of a sample, rounded down, but at most 32768.
+#[tactic(auto, unfolding(crate::specs::Amplifier::magnitude))]
 pub(crate) fn magnitude_of(x: WorkingSample) -> u32
     ensures value { result ≡ magnitude x }
     ensures at_most { result ≤ 32768 }

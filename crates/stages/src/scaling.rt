@@ -1,11 +1,9 @@
 // Scaling: from converter samples to working samples.
 ghost use Rattle.std.specs.Prelude.{◌≡◌, ◌≤◌};
-ghost use Rattle.stages.specs.Levels.{scaled, scaled_part};
+ghost use Rattle.stages.specs.Scaling.{scaled, scaled_part};
 
-use crate::product::times;
-use samples::arithmetic::floor_shift;
-use samples::converter::ConverterSample;
-use samples::kinds::WorkingSample;
+use samples::arithmetic::{floor_shift, times};
+use samples::kinds::{ConverterSample, WorkingSample};
 use samples::sample::Sample;
 use sources::each::Mapping;
 

@@ -5,8 +5,7 @@ ghost use Rattle.std.specs.Prelude.{◌≡◌};
 ghost use Rattle.stages.specs.Worked.{Worked, real};
 
 use crate::scaling::Scaling;
-use samples::converter::ConverterSample;
-use samples::kinds::WorkingSample;
+use samples::kinds::{ConverterSample, WorkingSample};
 use samples::sample::Sample;
 use sources::each::Mapping;
 

@@ -1,21 +1,12 @@
 -- Settings carried out one after the other, up to the line that stops them.
 use Rattle.std.proofs.Common.{◌≡◌, ℕ, List, ◌∷◌, ◌++◌, ap, ◌∙◌}
 use Rattle.std.specs.List.{All}
-use Rattle.std.specs.Str.{IsUtf8}
 use Rattle.text.specs.declared.numbered.Numbered.{Numbered}
-use Rattle.text.specs.Words.{words_of}
 use Rattle.text.proofs.Passing.{Passed}
 use Rattle.text.specs.declared.settings_file.fault.LineFault.{LineFault}
-use Rattle.text.specs.declared.settings_file.fault.Stop.{Stop}
-use Rattle.text.specs.declared.settings_file.fault.Stop.TheVariants.{Wrong, Refused}
 use Rattle.text.specs.declared.settings_file.setting.Setting.{Setting}
-use Rattle.text.specs.Files.{Accepted, RefusedAs, Stops, StopsAt}
+use Rattle.text.specs.Files.{Accepted, Stops, StopsAt}
 use Rattle.text.specs.Forms.{Says}
-
--- a refused setting stops its line
-pub refused_stops : (line : List ℕ) (setting : Setting) (stop : Stop) → IsUtf8 line → Says (words_of line) setting → RefusedAs setting stop → StopsAt line stop
-refused_stops line setting (Wrong wrong) text says h = absurd h
-refused_stops line setting (Refused refusal) text says h = (text, (setting, says, h))
 
 pub stopped : (all left after : List (ℕ × List ℕ)) (said : List (Numbered Setting)) (entry : ℕ × List ℕ) (fault : LineFault) → Passed Says all left said → All Accepted said → left ≡ entry ∷ after → fault.line ≡ entry.0 → StopsAt entry.1 fault.stop → Stops all fault
 stopped all left after said entry fault so_far accepted is line stops =

@@ -1,8 +1,7 @@
-pub mod Calls
 pub mod Carrying
 pub mod Passing
 pub mod Rows
 pub mod SettingRows
 pub mod Splitting
-mod Told
+mod Answered
 pub mod Words

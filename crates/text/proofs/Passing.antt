@@ -1,7 +1,7 @@
 -- Entries come off the lines one after the other.
-use Rattle.std.proofs.Common.{◌≡◌, ℕ, ◌+◌, ◌<◌, List, [], ◌∷◌, length, map, filter, min, Result, Ok, Err, IfErr, MatchResult, length-append, Bool, true, false, cond, not, ◌&&◌, ◌==◌, refl, sym, ap, ◌∙◌, ◌++◌, append_assoc, arith}
+use Rattle.std.proofs.Common.{◌≡◌, ℕ, ◌+◌, ◌<◌, List, [], ◌∷◌, length, map, filter, true, false, cond, refl, sym, ap, ◌∙◌, ◌++◌, append_assoc, arith}
 use Rattle.std.specs.List.{enumerate_from, AllZip}
-use Rattle.std.specs.Str.{IsUtf8, is_utf8}
+use Rattle.std.specs.Str.{IsUtf8}
 use Rattle.std.proofs.lemmas.Bool.Decides.{nat_tests}
 use Rattle.std.proofs.lemmas.Str.{IsUtf8-from_is_utf8, is_utf8-from_IsUtf8}
 use Rattle.text.specs.declared.fault.Wrong.{Wrong}
@@ -9,58 +9,39 @@ use Rattle.text.specs.declared.numbered.Numbered.{Numbered}
 use Rattle.text.specs.Entries.{WrongText, Holds, IsWrong, NoRoomFor, FirstWrong, entries_behind}
 use Rattle.text.proofs.Rows.{zip_more}
 use mathlib.Core.Logic.{◌⊎◌, inl, inr}
-use Rattle.text.specs.Lines.{lines_of, told, numbered}
+use Rattle.text.specs.Lines.{lines_of, reported_number, numbered}
 use Rattle.text.specs.Words.{words_of, is_entry}
 
-told_step : (most n m : ℕ) → min n most ≡ min m most → min (n + 1) most ≡ min (m + 1) most
-told_step most n m h = omega arith
-
-told_twice : (most n : ℕ) → min (n + 1) most ≡ min (min n most + 1) most
-told_twice most n = omega arith
-
 abbrev numbering : ℕ → List (List ℕ) → List (ℕ × List ℕ)
-numbering n lines = map {B = ℕ × List ℕ} (λ line. (told line.0, line.1)) (enumerate_from n lines)
+numbering n lines = map {B = ℕ × List ℕ} (λ line. (reported_number line.0, line.1)) (enumerate_from n lines)
 
-same_numbers : (n m : ℕ) (lines : List (List ℕ)) → told n ≡ told m → numbering n lines ≡ numbering m lines
+same_numbers : (n m : ℕ) (lines : List (List ℕ)) → reported_number n ≡ reported_number m → numbering n lines ≡ numbering m lines
 same_numbers n m [] h = refl
 same_numbers n m (line ∷ lines) h =
-    let more = same_numbers (n + 1) (m + 1) lines (told_step _ n m h) in
-    ap (λ (k : ℕ). ((k, line) ∷ numbering (n + 1) lines)) h ∙ ap (λ (ls : List (ℕ × List ℕ)). (told m, line) ∷ ls) more
+    let more = same_numbers (n + 1) (m + 1) lines (omega arith) in
+    ap (λ (k : ℕ). ((k, line) ∷ numbering (n + 1) lines)) h ∙ ap (λ (ls : List (ℕ × List ℕ)). (reported_number m, line) ∷ ls) more
 
-first_numbered : (passed : ℕ) (line : List ℕ) (lines : List (List ℕ)) → numbered passed (line ∷ lines) ≡ (told (passed + 1), line) ∷ numbered (told (passed + 1)) lines
-first_numbered passed line lines = ap (λ (ls : List (ℕ × List ℕ)). (told (passed + 1), line) ∷ ls) (same_numbers (passed + 1 + 1) (told (passed + 1) + 1) lines (told_twice _ (passed + 1)))
+first_numbered : (passed : ℕ) (line : List ℕ) (lines : List (List ℕ)) → numbered passed (line ∷ lines) ≡ (reported_number (passed + 1), line) ∷ numbered (reported_number (passed + 1)) lines
+first_numbered passed line lines = ap (λ (ls : List (ℕ × List ℕ)). (reported_number (passed + 1), line) ∷ ls) (same_numbers (passed + 1 + 1) (reported_number (passed + 1) + 1) lines (omega arith))
 
-first_behind : (passed : ℕ) (bytes line left : List ℕ) → lines_of bytes ≡ line ∷ lines_of left → entries_behind passed bytes ≡ cond (is_entry line) ((told (passed + 1), line) ∷ entries_behind (told (passed + 1)) left) (entries_behind (told (passed + 1)) left)
-first_behind passed bytes line left is = ap (λ lines. filter (λ l. is_entry l.1) (numbered passed lines)) is ∙ ap (filter (λ l. is_entry l.1)) (first_numbered passed line (lines_of left))
+first_behind : (passed : ℕ) (bytes line left : List ℕ) → lines_of bytes ≡ line ∷ lines_of left → entries_behind passed bytes ≡ cond (is_entry line) ((reported_number (passed + 1), line) ∷ entries_behind (reported_number (passed + 1)) left) (entries_behind (reported_number (passed + 1)) left)
+first_behind passed bytes line left is = rw is (ap (filter (λ l. is_entry l.1)) (first_numbered passed line (lines_of left)))
 
 -- a line that is no entry is passed over
-pub passed_over : (passed n : ℕ) (bytes line left : List ℕ) → lines_of bytes ≡ line ∷ lines_of left → n ≡ told (passed + 1) → is_entry line ≡ false → entries_behind passed bytes ≡ entries_behind n left
-passed_over passed n bytes line left is number off =
-    first_behind passed bytes line left is ∙ ap (λ b. cond b ((told (passed + 1), line) ∷ entries_behind (told (passed + 1)) left) (entries_behind (told (passed + 1)) left)) off ∙ ap (λ k. entries_behind k left) (sym number)
+pub passed_over : (passed n : ℕ) (bytes line left : List ℕ) → lines_of bytes ≡ line ∷ lines_of left → n ≡ reported_number (passed + 1) → is_entry line ≡ false → entries_behind passed bytes ≡ entries_behind n left
+passed_over passed n bytes line left is number off = first_behind passed bytes line left is ∙ rw (off, ← number)
 
-pub first_entry : (passed n : ℕ) (bytes line left : List ℕ) → lines_of bytes ≡ line ∷ lines_of left → n ≡ told (passed + 1) → is_entry line ≡ true → entries_behind passed bytes ≡ (n, line) ∷ entries_behind n left
-first_entry passed n bytes line left is number on =
-    first_behind passed bytes line left is ∙ ap (λ b. cond b ((told (passed + 1), line) ∷ entries_behind (told (passed + 1)) left) (entries_behind (told (passed + 1)) left)) on ∙ ap (λ k. (k, line) ∷ entries_behind k left) (sym number)
+pub first_entry : (passed n : ℕ) (bytes line left : List ℕ) → lines_of bytes ≡ line ∷ lines_of left → n ≡ reported_number (passed + 1) → is_entry line ≡ true → entries_behind passed bytes ≡ (n, line) ∷ entries_behind n left
+first_entry passed n bytes line left is number on = first_behind passed bytes line left is ∙ rw (on, ← number)
 
 pub blank : (line : List ℕ) → IsUtf8 line → words_of line ≡ [] → is_entry line ≡ false
-blank line text none =
-    ap (λ b. not (b && (length (words_of line) == 0))) (is_utf8-from_IsUtf8 line text) ∙ ap (λ ws. not (length ws == 0)) none
-
-and_false : (b : Bool) → not (b && false) ≡ true
-and_false true = refl
-and_false false = refl
+blank line text none = grind (arith, nat_tests, is_utf8-from_IsUtf8 line text, none)
 
 pub with_words : (line : List ℕ) → 0 < length (words_of line) → is_entry line ≡ true
-with_words line some =
-    let no : (length (words_of line) == 0) ≡ false = grind (arith, nat_tests) in
-    ap (λ b. not (is_utf8 line && b)) no ∙ and_false (is_utf8 line)
+with_words line some = grind (arith, nat_tests)
 
-no_text_by : (line : List ℕ) (b : Bool) → is_utf8 line ≡ b → ¬ (IsUtf8 line) → is_entry line ≡ true
-no_text_by line true is not_text = absurd (not_text (IsUtf8-from_is_utf8 line is))
-no_text_by line false is not_text = ap (λ b. not (b && (length (words_of line) == 0))) is
-
-pub no_text : (line : List ℕ) → ¬ (IsUtf8 line) → is_entry line ≡ true
-no_text line not_text = no_text_by line (is_utf8 line) refl not_text
+no_text : (line : List ℕ) → ¬ (IsUtf8 line) → is_entry line ≡ true
+no_text line not_text = grind (arith, nat_tests, not_text, IsUtf8-from_is_utf8 line)
 
 pub wrong_entry : (Complains : List (List ℕ) → Wrong → Type 0) (line : List ℕ) (wrong : Wrong) → WrongText Complains line wrong → is_entry line ≡ true
 wrong_entry Complains line wrong (inl h) = no_text line h.0
@@ -81,8 +62,3 @@ passed_more Says all left after held entry one so_far is holds = (
 pub stops : {F : Type 0} (Says : List (List ℕ) → F → Type 0) (Complains : List (List ℕ) → Wrong → Type 0) (all left after : List (ℕ × List ℕ)) (held : List (Numbered F)) (entry : ℕ × List ℕ) (wrong : Numbered Wrong) → Passed Says all left held → left ≡ entry ∷ after → IsWrong Complains entry wrong ⊎ NoRoomFor Says entry wrong → FirstWrong Says Complains all wrong
 stops Says Complains all left after held entry wrong so_far is fails =
     record { before = so_far.0; entry = entry; after = after; held = held; entries_are = so_far.1 ∙ ap (λ ls. so_far.0 ++ ls) is; hold = so_far.2; fails = fails }
-
--- what is wrong stands in an entry
-pub an_entry : {F : Type 0} (Says : List (List ℕ) → F → Type 0) (Complains : List (List ℕ) → Wrong → Type 0) (entries : List (ℕ × List ℕ)) {A : Type 0} (P : A → Type 0) (r : Result A (Numbered Wrong)) → MatchResult r P (FirstWrong Says Complains entries) → IfErr r (λ _. 0 < length entries)
-an_entry Says Complains entries P (Ok all) h = tt
-an_entry Says Complains entries P (Err wrong) h = rw h.entries_are (omega (arith, length-append {A = ℕ × List ℕ}))

@@ -5,54 +5,30 @@ use Rattle.std.specs.List.{All, AllZip, flat_map}
 use Rattle.std.proofs.lemmas.Grind.{flat_map-append}
 use Rattle.std.proofs.lemmas.List.Elements.{All-push}
 use Rattle.text.specs.declared.fault.Wrong.{Wrong}
-use Rattle.text.specs.Faults.{Kind, kind_of, Spells, FailsAt, Lacks, Exceeds, BeginsWithRow, NoRows, SayRows, TakesRow}
-use mathlib.Core.Logic.{inr}
+use Rattle.text.specs.Faults.{Kind, kind_of, Spells, FailsAt, Lacks, BeginsWithRow, SayRows, TakesRow}
 
 -- the error that a failed step hands on
 pub exit : {T E : Type 0} (P : T → Type 0) (Q : E → Type 0) (r : Result T E) (w : E) → IsErrAnd r (λ e. e ≡ w) → Q w → MatchResult r P Q
 exit P Q (Ok x) w h q = absurd h
 exit P Q (Err e) w h q = rw h q
 
-pub spells_some : {N : Type 0} (spelled : List ℕ → Option N) (range word : List ℕ) (n : N) → spelled word ≡ Some n → Spells (kind_of spelled range) word
-spells_some spelled range word n h = ap is_some h
-
 -- the first number of the form fails
 pub lacks_first : (form : List ℕ) (kind : Kind) (kinds : List Kind) (words : List (List ℕ)) (wrong : Wrong) → FailsAt form kind words wrong → Lacks form (kind ∷ kinds) words wrong
 lacks_first form kind kinds words wrong h = record { spelled = []; more = words; before = []; kind = kind; after = kinds; kinds_are = refl; words_are = refl; spell = tt; fails = h }
 
 -- the first word spells its number, and what is behind it fails
-pub lacks_later : (form : List ℕ) (kind : Kind) (kinds : List Kind) (word : List ℕ) (words : List (List ℕ)) (wrong : Wrong) → Spells kind word → Lacks form kinds words wrong → Lacks form (kind ∷ kinds) (word ∷ words) wrong
-lacks_later form kind kinds word words wrong s h =
+pub lacks_later : {N : Type 0} (spelled : List ℕ → Option N) (n : N) (form range : List ℕ) (kinds : List Kind) (word : List ℕ) (words : List (List ℕ)) (wrong : Wrong) → spelled word ≡ Some n → Lacks form kinds words wrong → Lacks form (kind_of spelled range ∷ kinds) (word ∷ words) wrong
+lacks_later spelled n form range kinds word words wrong s h =
     record {
       spelled = word ∷ h.spelled;
       more = h.more;
-      before = kind ∷ h.before;
+      before = kind_of spelled range ∷ h.before;
       kind = h.kind;
       after = h.after;
-      kinds_are = ap (λ ks. kind ∷ ks) h.kinds_are;
+      kinds_are = ap (λ ks. kind_of spelled range ∷ ks) h.kinds_are;
       words_are = ap (λ ws. word ∷ ws) h.words_are;
-      spell = (s, h.spell);
+      spell = (ap is_some s, h.spell);
       fails = h.fails;
-    }
-
--- a row that leaves nothing is the whole
-pub whole_row : {R : Type 0} (kinds : List Kind) (Says : List (List ℕ) → R → Type 0) (words left : List (List ℕ)) (row : R) → TakesRow kinds Says words left row → left ≡ [] → Says words row
-whole_row kinds Says words left row takes none = subst (λ ws. Says ws row) (sym (takes.1 ∙ ap (λ l. takes.0 ++ l) none ∙ append-nil takes.0)) takes.3
-
-nothing : (words : List (List ℕ)) → AllZip Spells [] words → words ≡ []
-nothing [] h = refl
-nothing (word ∷ words) h = absurd h
-
--- a row that leaves a word
-pub exceeds_row : {R : Type 0} (form : List ℕ) (kinds : List Kind) (Says : List (List ℕ) → R → Type 0) (words left : List (List ℕ)) (row : R) (wrong : Wrong) → TakesRow kinds Says words left row → Exceeds form [] left wrong → Exceeds form kinds words wrong
-exceeds_row form kinds Says words left row wrong takes more =
-    record {
-      spelled = takes.0;
-      word = more.word;
-      more = more.more;
-      words_are = takes.1 ∙ ap (λ l. takes.0 ++ l) (more.words_are ∙ ap (λ xs. xs ++ more.word ∷ more.more) (nothing more.spelled more.spell));
-      spell = takes.2;
-      fails = more.fails;
     }
 
 -- the words are rows that say the items, and what is left
@@ -77,9 +53,6 @@ begun_more kinds Says words items left after row begun takes =
       All-push (AllZip Spells kinds) whole takes.0 begun.2 takes.2,
       zip_more Says whole items takes.0 row begun.3 takes.3,
     )
-
-pub last_lacks : {R : Type 0} (form : List ℕ) (kinds : List Kind) (Says : List (List ℕ) → R → Type 0) (words : List (List ℕ)) (items : List R) (left : List (List ℕ)) (wrong : Wrong) → Begun kinds Says words items left → 0 < length left → Lacks form kinds left wrong → NoRows form kinds words wrong
-last_lacks form kinds Says words items left wrong begun some fails = inr (record { whole = begun.0; last = left; words_are = begun.1; begun = some; spell = begun.2; fails = fails })
 
 -- rows in front of words that begin with one
 first_row : (kinds : List Kind) (words left : List (List ℕ)) (whole : List (List (List ℕ))) → words ≡ flat_map (λ row. row) whole ++ left → All (AllZip Spells kinds) whole → BeginsWithRow kinds left → BeginsWithRow kinds words

@@ -1,5 +1,5 @@
 -- Lines come off the bytes one after the other.
-use Rattle.std.proofs.Common.{◌≡◌, ℕ, ◌<◌, ◌≤◌, List, [], ◌∷◌, length, false, cond, refl, sym, ap, ◌∙◌, arith, ◌==◌}
+use Rattle.std.proofs.Common.{◌≡◌, ℕ, ◌<◌, ◌≤◌, List, [], ◌∷◌, length, false, refl, sym, ap, ◌∙◌, arith, ◌==◌}
 use Rattle.std.specs.List.{All, slice_split}
 use Rattle.std.proofs.lemmas.Bool.Decides.{nat_tests}
 use Rattle.std.proofs.lemmas.List.{get_or_default}
@@ -18,9 +18,7 @@ onto_more line [] some = absurd (omega arith)
 onto_more line (part ∷ parts) some = refl
 
 last_line : (line : List ℕ) → 0 < length line → without_empty_end (line ∷ []) ≡ line ∷ []
-last_line line some =
-    let full : (length line == 0) ≡ false = grind (arith, nat_tests) in
-    ap (λ b. cond b [] (line ∷ [])) full
+last_line line some = grind (arith, nat_tests)
 
 -- the first line and what is left have all the lines
 pub first_of_lines : (bytes line left : List ℕ) → FirstLine bytes line left → length line ≤ length bytes → 0 < length bytes → lines_of bytes ≡ line ∷ lines_of left

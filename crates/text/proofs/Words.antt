@@ -1,15 +1,15 @@
 -- Words come off a text one after the other.
-use Rattle.std.proofs.Common.{◌≡◌, ℕ, ◌<◌, ◌≤◌, List, [], ◌∷◌, ◌++◌, length, get_or, true, false, refl, sym, ap, ◌∙◌, arith, filter, suc, append-nil, nat_lt, ◌==◌, cond, codes, subst, take, Option, Some, None, Bor, MatchOption}
+use Rattle.std.proofs.Common.{◌≡◌, ℕ, ◌<◌, ◌≤◌, List, [], ◌∷◌, ◌++◌, length, get_or, true, false, refl, sym, ap, ◌∙◌, arith, filter, suc, append-nil, nat_lt, codes, Option, Some, None, Bor, MatchOption}
 use Rattle.std.specs.Char.{is_ascii_whitespace}
-use Rattle.std.specs.List.{slice_split, AllPass, All, before_first, position_or_len}
+use Rattle.std.specs.List.{slice_split, AllPass, All}
 use Rattle.std.specs.Str.{NoCharPasses}
 use Rattle.std.specs.Str.Iter.{IsAsciiSeparator, CutsAsciiWord}
-use Rattle.std.proofs.lemmas.Bool.{lt-ltb, le-ltb}
-use Rattle.std.proofs.lemmas.List.{get_or_default, take_all}
+use Rattle.std.proofs.lemmas.Bool.{lt-ltb}
+use Rattle.std.proofs.lemmas.List.{get_or_default}
 use Rattle.std.proofs.lemmas.List.Splits.{slice_split_none, slice_split_at, slice_split-cons_yes}
 use Rattle.std.proofs.lemmas.Str.{NoCharPasses-byte}
 use Rattle.std.proofs.lemmas.Bool.Decides.{nat_tests}
-use Rattle.text.specs.Words.{hash, words_in, beginning, quote_of}
+use Rattle.text.specs.Words.{words_in, beginning, quote_of}
 
 -- white space in front holds no word
 pub words_behind_gap : (gap text : List ℕ) → AllPass is_ascii_whitespace gap → words_in (gap ++ text) ≡ words_in text
@@ -31,7 +31,7 @@ no_white : (word : List ℕ) → NoCharPasses is_ascii_whitespace word → All (
 no_white word none k d within = rw (get_or_default word k d 0 within) (white_below (get_or word k 0) (λ low. NoCharPasses-byte is_ascii_whitespace word k none within low))
 
 one_word : (word : List ℕ) (more : List (List ℕ)) → 0 < length word → filter (λ w. nat_lt 0 (length w)) (word ∷ more) ≡ word ∷ filter (λ w. nat_lt 0 (length w)) more
-one_word word more some = rw (lt-ltb 0 (length word) some) refl
+one_word word more some = rw (lt-ltb 0 (length word) some)
 
 pub first_word : (word sep rest : List ℕ) → 0 < length word → NoCharPasses is_ascii_whitespace word → IsAsciiSeparator sep rest → words_in (word ++ (sep ++ rest)) ≡ word ∷ words_in rest
 first_word word [] [] some none ends = ap (filter (λ w. nat_lt 0 (length w))) (ap (slice_split is_ascii_whitespace) (append-nil word) ∙ slice_split_none is_ascii_whitespace word (no_white word none)) ∙ one_word word [] some
@@ -47,12 +47,8 @@ taken text left (Some word) h =
     let cut = h.3 in
     ap words_in cut.2 ∙ words_behind_gap cut.0 (word.now ++ (cut.1 ++ left)) cut.3 ∙ first_word word.now cut.1 left h.0 h.1 cut.4
 
--- where no byte starts a comment, all stands before it
-pub all_before : (text : List ℕ) → position_or_len (λ byte. byte == hash) text ≡ length text → before_first (λ byte. byte == hash) text ≡ text
-all_before text none = ap (λ n. take n text) none ∙ take_all (length text) text (omega arith)
-
 pub quote_whole : (word text : List ℕ) → text ≡ beginning word → length word ≤ length text → text ≡ quote_of word
-quote_whole word text is long = is ∙ ap (λ b. cond b (beginning word ++ codes "..") (beginning word)) (sym (le-ltb (length (beginning word)) (length word) (subst (λ t. length word ≤ length t) is long)))
+quote_whole word text is long = grind (arith, nat_tests, is, ap length is, long)
 
 pub quote_begun : (word begun text : List ℕ) → begun ≡ beginning word → length begun < length word → text ≡ begun ++ codes ".." → text ≡ quote_of word
-quote_begun word begun text is short dots = dots ∙ ap (λ t. t ++ codes "..") is ∙ ap (λ b. cond b (beginning word ++ codes "..") (beginning word)) (sym (lt-ltb (length (beginning word)) (length word) (subst (λ t. length t < length word) is short)))
+quote_begun word begun text is short dots = grind (arith, nat_tests, is, ap length is, short, dots)

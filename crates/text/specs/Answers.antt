@@ -1,9 +1,9 @@
--- What a run tells in text: a line for each step, with its answer.
+-- A run in text: a line for each step, with its answer.
 use Rattle.std.specs.Prelude.{ℕ, List, [], ◌∷◌, ◌++◌, take, Some, None, Ok, Err, Option, codes, decimal, flat_map}
 use Rattle.std.specs.Fmt.{signed_decimal}
 use Rattle.std.specs.List.{zip}
-use Rattle.samples.specs.declared.converter.ConverterSample.{ConverterSample}
-use Rattle.player.specs.Calls.{Told, item, filled, skipped, rewound}
+use Rattle.samples.specs.declared.kinds.ConverterSample.{ConverterSample}
+use Rattle.player.specs.Calls.{Answered, item, filled, skipped, rewound}
 use Rattle.player.specs.Words.{player_fault_text}
 use Rattle.text.specs.Lines.{feed}
 use Rattle.text.specs.declared.numbered.Numbered.{Numbered}
@@ -35,23 +35,23 @@ abbrev pub filled_text : ℕ → List ConverterSample → List ℕ
 filled_text count buffer = decimal count ++ flat_map placed_text (take count buffer)
 
 -- what was answered
-abbrev pub told_text : Told ConverterSample → List ℕ
-told_text (item (Ok found)) = item_text found
-told_text (item (Err f)) = player_fault_text f
-told_text (filled (Ok count) buffer) = filled_text count buffer
-told_text (filled (Err f) buffer) = player_fault_text f
-told_text (skipped (Ok count)) = decimal count
-told_text (skipped (Err f)) = player_fault_text f
-told_text rewound = codes "done"
+abbrev pub answered_text : Answered ConverterSample → List ℕ
+answered_text (item (Ok found)) = item_text found
+answered_text (item (Err f)) = player_fault_text f
+answered_text (filled (Ok count) buffer) = filled_text count buffer
+answered_text (filled (Err f) buffer) = player_fault_text f
+answered_text (skipped (Ok count)) = decimal count
+answered_text (skipped (Err f)) = player_fault_text f
+answered_text rewound = codes "done"
 
 -- a step and its answer
-abbrev pub answer_text : Step → Told ConverterSample → List ℕ
-answer_text step answer = step_text step ++ (codes ": " ++ told_text answer)
+abbrev pub answer_text : Step → Answered ConverterSample → List ℕ
+answer_text step answer = step_text step ++ (codes ": " ++ answered_text answer)
 
 -- the line of a step and its answer
-abbrev pub line_text : Numbered Step × Told ConverterSample → List ℕ
+abbrev pub line_text : Numbered Step × Answered ConverterSample → List ℕ
 line_text turn = answer_text turn.0.held turn.1 ++ feed ∷ []
 
 -- all steps with their answers, each in a line of its own
-abbrev pub answer_lines : List (Numbered Step) → List (Told ConverterSample) → List ℕ
+abbrev pub answer_lines : List (Numbered Step) → List (Answered ConverterSample) → List ℕ
 answer_lines steps answers = flat_map line_text (zip steps answers)

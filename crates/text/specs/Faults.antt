@@ -23,7 +23,7 @@ Unknown kind word (UnknownWord quote names) = (string_bytes quote ≡ quote_of w
 Unknown kind word Memory = Unit {0}
 Unknown kind word _ = ⊥
 
--- the word is no number of the kind; where there is no memory to quote it, that is told
+-- the word is no number of the kind; where there is no memory to quote it, that is reported
 abbrev pub Mistaken : Kind → List ℕ → Wrong → Type 0
 Mistaken kind word (NoNumber quote range) = (kind.spells word ≡ false) × (string_bytes quote ≡ quote_of word) × (range.now ≡ kind.range)
 Mistaken kind word Memory = kind.spells word ≡ false
@@ -31,7 +31,7 @@ Mistaken kind word _ = ⊥
 
 -- a number of the form is missing
 abbrev pub Ends : List ℕ → Wrong → Type 0
-Ends form (Missing told) = told.now ≡ form
+Ends form (Missing answered) = answered.now ≡ form
 Ends form _ = ⊥
 
 -- the words that are left fail a form that has a number of the kind here
@@ -41,7 +41,7 @@ FailsAt form kind (word ∷ more) wrong = Mistaken kind word wrong
 
 -- the word is too much for the form
 abbrev pub TooMuch : List ℕ → List ℕ → Wrong → Type 0
-TooMuch form word (Superfluous quote told) = (string_bytes quote ≡ quote_of word) × (told.now ≡ form)
+TooMuch form word (Superfluous quote answered) = (string_bytes quote ≡ quote_of word) × (answered.now ≡ form)
 TooMuch form word Memory = Unit {0}
 TooMuch form word _ = ⊥
 

@@ -5,7 +5,7 @@ use Rattle.std.specs.Str.{bytes_eq}
 use Rattle.text.specs.declared.fault.Wrong.{Wrong}
 use Rattle.text.specs.Faults.{Kind, kind_of, Unknown, NoRow, NoRows, SayRows, OneSays, TwoSay, ThreeSay}
 use Rattle.text.specs.Numbers.{unsigned, signed, switch, u8_range, u16_range, u32_range, i16_range, i64_range, switch_range}
-use Rattle.settings.specs.declared.paths.RawPath.{RawPath}
+use Rattle.settings.specs.declared.settings.RawPath.{RawPath}
 use Rattle.text.specs.declared.settings_file.setting.Setting.{Setting}
 use Rattle.text.specs.declared.settings_file.setting.Setting.TheVariants.{Scale, TxDc, TxImbalance, AmplifierTable, AmplifierBypass, Paths, Frequency, Clock, ClockBypass, Gain, Seeds, ReceiveGain, Lead, RxDc, RxImbalance}
 

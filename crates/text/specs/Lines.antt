@@ -23,9 +23,9 @@ abbrev pub lines_of : List ℕ → List (List ℕ)
 lines_of bytes = without_empty_end (slice_split (λ byte. byte == feed) bytes)
 
 -- the number of a line, as 64 bits tell it
-abbrev pub told : ℕ → ℕ
-told n = min n (2 ^ 64 - 1)
+abbrev pub reported_number : ℕ → ℕ
+reported_number n = min n (2 ^ 64 - 1)
 
 -- the lines with their numbers, behind so many
 abbrev pub numbered : ℕ → List (List ℕ) → List (ℕ × List ℕ)
-numbered passed lines = map (λ line. (told line.0, line.1)) (enumerate_from (passed + 1) lines)
+numbered passed lines = map (λ line. (reported_number line.0, line.1)) (enumerate_from (passed + 1) lines)

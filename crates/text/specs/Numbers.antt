@@ -20,7 +20,7 @@ signed high word = cond (is_below (2 ^ high + cond (starts_with_minus word) 1 0)
 abbrev pub switch : List ℕ → Option Switch
 switch word = cond (bytes_eq word (codes "0")) (Some (record { 0 = false })) (cond (bytes_eq word (codes "1")) (Some (record { 0 = true })) None)
 
--- how the numbers are told that a word may be
+-- how the numbers are reported that a word may be
 abbrev pub u8_range : List ℕ
 u8_range = codes "a whole number from 0 to 255"
 

@@ -6,7 +6,7 @@ use Rattle.text.specs.declared.numbered.Numbered.{Numbered}
 use Rattle.text.specs.Faults.{Exceeds, NoRow, OneSays, Unknown, kind_of}
 use Rattle.text.specs.Numbers.{unsigned, u32_range}
 use Rattle.samples.specs.Kinds.{converter}
-use Rattle.samples.specs.declared.converter.ConverterSample.{ConverterSample}
+use Rattle.samples.specs.declared.kinds.ConverterSample.{ConverterSample}
 use Rattle.player.specs.Calls.{Asked, next, fill, skip, rewind}
 use Rattle.text.specs.declared.transcript.step.Step.{Step}
 use Rattle.text.specs.declared.transcript.step.Step.TheVariants.{Next, Fill, Skip, Rewind}

@@ -39,7 +39,8 @@ fn read_line<F: Form>(heap: Global, line: &[u8]) -> Result<Option<F>, Wrong>
     Ok(Some(F::read(word, entry)?))
 }
 
-/// What the lines hold that are not passed yet, in order; a line that is wrong is told in its place.
+/// What the lines hold that are not passed yet, in order; a line that is wrong is reported in its
+/// place.
 #[derive(Drop)]
 pub struct Entries<'a, F> {
     heap: Global,
@@ -82,8 +83,8 @@ impl<'a, F: Form> Iterator for Entries<'a, F> {
     }
 }
 
-/// What all entries of the bytes hold, in order, or the first that is wrong. Memory is taken to keep
-/// an entry and to quote a word that is wrong: bytes without an entry are never refused.
+/// What all entries of the bytes hold, in order, or the first that is wrong. Memory is taken to
+/// keep an entry and to quote a word that is wrong: bytes without an entry are never refused.
 pub fn read_all<F: Form>(heap: Global, bytes: &[u8]) -> Result<Vec<Numbered<F>>, WrongLine>
     ensures read { MatchResult result
         (λ all. AllZip (Holds F.Says) (entries_of bytes.now) all.items)

@@ -1,12 +1,12 @@
 // The lines of a file.
 ghost use Rattle.std.specs.Prelude.{◌≡◌, ◌+◌, ◌<◌, ◌≤◌, [], ◌∷◌, length, MatchOption};
-ghost use Rattle.text.specs.Lines.{FirstLine, lines_of, told};
+ghost use Rattle.text.specs.Lines.{FirstLine, lines_of, reported_number};
 ghost use Rattle.std.specs.Iterator.{at_most};
 
 use crate::numbered::Numbered;
 
-/// What is left of a file, from the start of a line, and how many lines are before it. A line ends at
-/// a line feed or at the end of the file.
+/// What is left of a file, from the start of a line, and how many lines are before it. A line ends
+/// at a line feed or at the end of the file.
 #[derive(Drop)]
 pub struct Lines<'a> {
     rest: &'a [u8],
@@ -45,7 +45,7 @@ impl<'a> Iterator for Lines<'a> {
         FirstLine s.rest.now line.held.now t.rest.now
         × (lines_of s.rest.now ≡ line.held.now ∷ lines_of t.rest.now)
         × (length t.rest.now < length s.rest.now)
-        × (line.line ≡ told (s.passed + 1)) × (t.passed ≡ line.line)) };
+        × (line.line ≡ reported_number (s.passed + 1)) × (t.passed ≡ line.line)) };
 
     ghost remaining = { λ s. at_most (length s.rest.now) };
 

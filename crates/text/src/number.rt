@@ -9,8 +9,10 @@ use std::str::FromStr;
 
 /// A type of number that a word can be read as.
 pub trait Number: Copy + FromStr<Err: Drop> {
+    /// Which numbers these are, in words.
     ghost range: { List ℕ };
 
+    /// The number that a word spells, if it is one of these.
     ghost spelled: { List ℕ → Option Self };
 
     /// Which numbers these are, in words.
@@ -24,6 +26,7 @@ pub trait Number: Copy + FromStr<Err: Drop> {
         word.parse::<Self>().ok()
     }
 
+    /// Parsing a word gives the number that it spells.
     ghost reads: { (word : List ℕ) (r : Result Self Self.Err)
         → Self.from_str_gives word r → result_ok r ≡ spelled word };
 }

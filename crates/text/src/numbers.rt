@@ -51,8 +51,8 @@ impl<'a> Numbers<'a> {
         }
     }
 
-    /// The one row of numbers that the form has. Refused for the first word that is no number of its
-    /// kind, for a number that is missing, or for a word behind the row.
+    /// The one row of numbers that the form has. Refused for the first word that is no number of
+    /// its kind, for a number that is missing, or for a word behind the row.
     pub fn row<R: Row>(mut self) -> Result<R, Wrong>
         ensures { MatchResult result
             (R.Says (numbers_left self.entry))
@@ -66,8 +66,8 @@ impl<'a> Numbers<'a> {
         Ok(row)
     }
 
-    /// Whole rows, as many as there are. Refused for the first word that is no number of its kind, for
-    /// a number that is missing in the last row, or if there is no memory to keep a row.
+    /// Whole rows, as many as there are. Refused for the first word that is no number of its kind,
+    /// for a number that is missing in the last row, or if there is no memory to keep a row.
     pub fn rows<R: Row>(mut self) -> Result<Vec<R>, Wrong>
         ensures { MatchResult result
             (λ rows. SayRows R.Says (numbers_left self.entry) rows.items)

@@ -9,10 +9,13 @@ use crate::numbers::Numbers;
 
 /// One, two or three numbers in a row.
 pub trait Row: Drop + Sized {
+    /// The type of the row's first number.
     ghost kind: { Kind };
 
+    /// The types of the numbers behind it.
     ghost kinds_behind: { List Kind };
 
+    /// What words say the row.
     ghost Says: { List (List ℕ) → Self → Type 0 };
 
     /// The row that begins with the word.

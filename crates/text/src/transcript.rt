@@ -1,7 +1,7 @@
-// Runs of a player in text: files of calls, and the line that tells each answer.
+// Runs of a player in text: files of calls, and the line of each answer.
 //
-// Proved: which call of a player a line of the file stands for, and the words that tell a step and its
-// answer.
+// Proved: which call of a player a line of the file stands for, and the words of a step and
+// its answer.
 pub mod answers;
 pub mod step;
 #[cfg(test)]

@@ -1,52 +1,57 @@
 // Tigwedan: a radio channel emulator. It plays a recorded signal through a modelled radio link.
 //
-// The program reads its arguments and files, calls the libraries and prints. What it answers about a recording comes
-// from them and is proved there; of the program itself it is proved that it is safe and ends.
+// The library `program` does the work; here are the machine's words, its files and its outputs.
 #![tactic(auto)]
 
-mod arguments;
-mod bench;
-mod blocks;
-mod check;
-mod copy;
-mod demonstration;
-mod emulation;
-mod failure;
-mod inputs;
-mod levels;
-mod parts;
-mod play;
-mod playing;
-mod replay;
-mod report;
-
-use arguments::Command;
-use failure::Failure;
+use program::arguments::words;
+use program::failure::Failure;
+use program::host::Disk;
+use program::report::{Outcome, status};
+use program::run::run;
+use std::io;
 use std::process::ExitCode;
 
-fn run<'a>(rt: &'a HostRuntime, words: &'a [String]) -> Result<(), Failure<'a>> {
-    match arguments::parse(words)? {
-        Command::Demonstrate => demonstration::demonstrate(rt),
-        Command::Help => Ok(demonstration::help(rt)?),
-        Command::Check(kind, file) => check::check(rt, kind, file),
-        Command::Copy(from, to) => copy::copy(rt, from, to),
-        Command::Chain(inputs, task) => emulation::perform(rt, inputs, task),
+// An answer about a file goes to the output, any other failure to the errors.
+fn print_failure(rt: &HostRuntime, failure: &Failure<'_>) -> io::Result<()> {
+    let line = failure.line(rt.alloc())?;
+    if failure.is_answer() {
+        println!(rt; "{line}")
+    } else {
+        eprintln!(rt; "tigwedan: {line}")
     }
 }
 
-// Why it ends with status 1 the program has told.
-fn main(rt: HostRuntime) -> ExitCode {
-    let words = match arguments::words(&rt) {
-        Ok(words) => words,
-        Err(error) => {
-            let _ = eprintln!(rt; "tigwedan: the arguments cannot be read: {error}");
-            return ExitCode::FAILURE;
+fn print(rt: &HostRuntime, outcome: &Outcome<'_>) -> io::Result<()> {
+    match outcome {
+        Ok(report) => {
+            println!(rt; "{report}")?;
+            match report.failure() {
+                Some(failure) => print_failure(rt, &failure),
+                None => Ok(()),
+            }
         }
-    };
-    match run(&rt, words.as_slice()) {
-        Ok(()) => ExitCode::SUCCESS,
+        Err(failure) => print_failure(rt, failure),
+    }
+}
+
+// Does what the words ask for, and answers the status.
+fn carry_out(rt: &HostRuntime, words: &[String]) -> u8 {
+    let outcome = run(rt.alloc(), &mut Disk(rt), words);
+    match print(rt, &outcome) {
+        Ok(()) => status(&outcome),
+        Err(error) => {
+            let _ = eprintln!(rt; "tigwedan: the output cannot be written: {error}");
+            1
+        }
+    }
+}
+
+// Status 1 comes with its reason in words.
+fn main(rt: HostRuntime) -> ExitCode {
+    match words(rt.alloc(), &rt) {
+        Ok(words) => ExitCode::from(carry_out(&rt, words.as_slice())),
         Err(failure) => {
-            let _ = failure.tell(&rt);
+            let _ = print_failure(&rt, &failure);
             ExitCode::FAILURE
         }
     }

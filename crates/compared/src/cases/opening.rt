@@ -2,13 +2,14 @@
 use crate::cases::builder;
 use crate::cases::showing::Refused;
 use anyhow::anyhow;
-use comparison::ending::{AtItem, Ends};
-use comparison::whole::Whole;
+use comparison::ending::Ends;
 use recordings::layout::{Gains, Layout, Signal};
 use recordings::pair::Input;
 use recordings::recording::Recording;
-use samples::converter::ConverterSample;
 use samples::gain_index::GainIndex;
+use samples::kinds::ConverterSample;
+use sources::fault::AtItem;
+use sources::whole::Whole;
 use std::alloc::Global;
 use std::fmt::Write;
 

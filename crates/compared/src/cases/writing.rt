@@ -4,7 +4,7 @@
 use anyhow::anyhow;
 use recorder::refusal::WritingRefusal;
 use recorder::started::StartedRecording;
-use samples::converter::ConverterSample;
+use samples::kinds::ConverterSample;
 use samples::sample::Sample;
 use std::alloc::Global;
 use std::fmt;

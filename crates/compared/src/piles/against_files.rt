@@ -1,5 +1,5 @@
 // Piles, each compared with the file of its name.
-use crate::piles::whole::{Told, played, read};
+use crate::piles::whole::{Expected, played, read};
 use anyhow::ensure;
 use comparison::tally::Tally;
 use samples::sample::Sample;
@@ -14,8 +14,8 @@ const TAKEN: u32 = 7;
 // In words, where what was played first differs from what was expected.
 fn difference(
     heap: Global,
-    expected: &Told,
-    played: &Told,
+    expected: &Expected,
+    played: &Expected,
     when: &str,
 ) -> anyhow::Result<Option<String>> {
     let Some(place) = expected.first_difference(played) else {
@@ -34,7 +34,11 @@ fn difference(
 }
 
 // Plays the pile as it was made, asks for more at its end, and plays it again after a rewind from its middle.
-fn play<S: Source>(heap: Global, expected: &Told, pile: &mut S) -> anyhow::Result<Option<String>>
+fn play<S: Source>(
+    heap: Global,
+    expected: &Expected,
+    pile: &mut S,
+) -> anyhow::Result<Option<String>>
 where
     S::Item: Sample,
 {
@@ -73,7 +77,12 @@ impl<'r> Piles<'r> {
     }
 
     // Prints a line for a pile: what came out, and where it first differs from what should.
-    fn tell(&self, name: &str, expected: &Told, difference: Option<String>) -> io::Result<()> {
+    fn report(
+        &self,
+        name: &str,
+        expected: &Expected,
+        difference: Option<String>,
+    ) -> io::Result<()> {
         let count = expected.items.len();
         let ending = &expected.ending;
         match difference {
@@ -99,7 +108,7 @@ impl<'r> Piles<'r> {
         let expected = read(heap, text.as_str())?;
         let difference = play(heap, &expected, &mut pile)?;
         self.tally.count(difference.is_none());
-        Ok(self.tell(name, &expected, difference)?)
+        Ok(self.report(name, &expected, difference)?)
     }
 
     // The count of all piles; an error where one differs.

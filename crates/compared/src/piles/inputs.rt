@@ -1,35 +1,35 @@
-// Recordings made in memory: sawtooth signals and gain indices, whole or with one item spoilt.
+// Recordings made in memory: sawtooth signals and gain indices, whole or with one item faulty.
 use anyhow::anyhow;
 use recorder::session::write;
 use recorder::started::HEADER;
 use recordings::layout::{Gains, Signal};
 use recordings::pair::Input;
 use recordings::recording::Recording;
-use samples::converter::ConverterSample;
+use samples::kinds::ConverterSample;
 use samples::sample::Sample;
 use std::alloc::Global;
 
 const RATE: u32 = 8000;
 
-// How many items a recording has, and which of them is spoilt.
+// How many items a recording has, and which of them is faulty.
 #[derive(Clone, Copy)]
 pub(crate) struct Take {
     items: u16,
-    spoilt: Option<u16>,
+    faulty: Option<u16>,
 }
 
 impl Take {
     pub(crate) fn whole(items: u16) -> Take {
         Take {
             items,
-            spoilt: None,
+            faulty: None,
         }
     }
 
-    pub(crate) fn spoilt(items: u16, item: u16) -> Take {
+    pub(crate) fn faulty(items: u16, item: u16) -> Take {
         Take {
             items,
-            spoilt: Some(item),
+            faulty: Some(item),
         }
     }
 }
@@ -39,7 +39,7 @@ fn signal_item(k: u16) -> ConverterSample {
     ConverterSample::new(k * 37 % 4001 - 2000, k * 91 % 3001 - 1500)
 }
 
-// The bytes of a signal recording. A spoilt sample has a lowest bit that is not 0.
+// The bytes of a signal recording. A faulty sample has a lowest bit that is not 0.
 pub(crate) fn signal_bytes(heap: Global, take: Take) -> anyhow::Result<Vec<u8>> {
     let samples = (0..take.items)
         .map(signal_item)
@@ -48,7 +48,7 @@ pub(crate) fn signal_bytes(heap: Global, take: Take) -> anyhow::Result<Vec<u8>> 
     write(samples.as_slice(), RATE, bytes.as_mut_slice()).map_err(|refusal| anyhow!(
         "a signal is not recorded: {refusal}"
     ))?;
-    if let Some(item) = take.spoilt {
+    if let Some(item) = take.faulty {
         if let Some(low) = bytes.get_mut(HEADER + 4 * usize::from(item) + 2) {
             *low |= 1;
         }
@@ -56,9 +56,9 @@ pub(crate) fn signal_bytes(heap: Global, take: Take) -> anyhow::Result<Vec<u8>> 
     Ok(bytes)
 }
 
-// Index (k × 7) mod 128 for item k. A spoilt index is 200.
+// Index (k × 7) mod 128 for item k. A faulty index is 200.
 fn gain_item(take: Take, k: u16) -> u8 {
-    if take.spoilt == Some(k) {
+    if take.faulty == Some(k) {
         200
     } else {
         (u32::from(k) * 7 % 128) as u8

@@ -2,32 +2,26 @@
 use crate::piles::against_files::Piles;
 use crate::piles::inputs::{Take, gain_bytes, open_gains, open_signal, signal_bytes};
 use crate::piles::ranged;
-use samples::converter::ConverterSample;
 use samples::gain_index::GainIndex;
-use samples::kinds::{AirSample, WorkingSample};
+use samples::kinds::{AirSample, ConverterSample, WorkingSample};
 use samples::sample::Sample;
-use settings::paths::RawPath;
+use settings::settings::RawPath;
 use sources::each::Each;
 use sources::held::Held;
 use sources::lead::Lead;
 use sources::pairing::Pairing;
 use sources::scan::Scan;
 use sources::source::Source;
-use stages::adding::Adding;
 use stages::amplifier::Amplifier;
-use stages::balance::Balance;
-use stages::clock::Clock;
+use stages::clock_offset::Clock;
 use stages::converter::Quantizer;
-use stages::dc::DcOffset;
-use stages::frequency::Rotator;
-use stages::frequency_offset::FrequencyOffset;
-use stages::gains::{FixedGain, ReceiveGain};
-use stages::imbalance::Imbalance;
+use stages::dc_offset::{DcOffset, Offset};
+use stages::frequency_offset::{FrequencyOffset, Rotator};
+use stages::gain::{FixedGain, ReceiveGain};
+use stages::imbalance::{Balance, Imbalance};
 use stages::multipath::Multipath;
-use stages::noise::Noise;
-use stages::offset::Offset;
+use stages::noise::{Adding, Noise, Seeds};
 use stages::scaling::Scaling;
-use stages::seeds::Seeds;
 
 // The paths below and above the clock.
 const LOWER: [RawPath; 3] = [
@@ -101,9 +95,9 @@ fn gained<S: Source<Item = AirSample> + Drop, G: Source<Item = GainIndex> + Drop
     air: S,
     indices: G,
 ) -> anyhow::Result<Gained<S, G>> {
-    let led = Lead::new(3, GainIndex::new(0), indices);
+    let lead = Lead::new(3, GainIndex::new(0), indices);
     let gains = ReceiveGain::new(ranged::receive_gains()?);
-    Ok(Each::new(gains, Pairing::new(air, led)))
+    Ok(Each::new(gains, Pairing::new(air, lead)))
 }
 
 // A receiver up to its gain, over a signal on the air with noise.
@@ -135,8 +129,8 @@ fn turned<S: Source<Item = WorkingSample> + Drop>(
     below: S,
     c: i64,
 ) -> anyhow::Result<Scan<Clock<Lead<S>>, Rotator>> {
-    let led = Lead::new(4, CORNER, below);
-    let clocked = Clock::new(false, ranged::clock_offset(c)?, led);
+    let lead = Lead::new(4, CORNER, below);
+    let clocked = Clock::new(false, ranged::clock_offset(c)?, lead);
     Ok(Scan::new(Rotator::new(FrequencyOffset { f: TURN }), clocked))
 }
 
@@ -169,8 +163,8 @@ impl Piles<'_> {
             re: 1234,
             im: -4321,
         };
-        let led = Lead::new(5, first, scaled);
-        self.compare(name, Clock::new(false, ranged::clock_offset(c)?, led))
+        let lead = Lead::new(5, first, scaled);
+        self.compare(name, Clock::new(false, ranged::clock_offset(c)?, lead))
     }
 
     // A clock offset over another.
@@ -208,7 +202,7 @@ impl Piles<'_> {
     }
 
     // A lead over another.
-    pub(crate) fn led_twice(&mut self, name: &str, signal: Take) -> anyhow::Result<()> {
+    pub(crate) fn lead_twice(&mut self, name: &str, signal: Take) -> anyhow::Result<()> {
         let bytes = signal_bytes(self.heap(), signal)?;
         let scaled = Each::new(Scaling { factor: 256 }, open_signal(bytes.as_slice())?);
         let lower = Lead::new(2, WorkingSample { re: 1, im: 2 }, scaled);

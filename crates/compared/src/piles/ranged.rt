@@ -1,13 +1,12 @@
 // Numbers of stages, as the settings accept them.
 use anyhow::anyhow;
-use settings::paths::RawPath;
 use settings::refusal::SettingRefusal;
-use settings::settings::Settings;
+use settings::settings::{RawPath, Settings};
+use stages::amplifier::AmplifierTable;
 use stages::clock_offset::ClockOffset;
 use stages::gain::Gain;
-use stages::paths::Paths;
-use stages::seeds::Seeds;
-use stages::table::AmplifierTable;
+use stages::multipath::Paths;
+use stages::noise::Seeds;
 
 // Fresh settings with one of them set.
 fn with<F: FnOnce(&mut Settings) -> Result<(), SettingRefusal>>(set: F) -> anyhow::Result<Settings>

@@ -1,9 +1,9 @@
 // What a pile hands out, and what a file says that it should.
 use anyhow::{Context, ensure};
 use comparison::ending::Ends;
-use comparison::whole::Whole;
 use samples::sample::Sample;
 use sources::source::Source;
+use sources::whole::Whole;
 use std::alloc::{AllocError, Global};
 use std::str::FromStr;
 
@@ -27,10 +27,10 @@ impl FromStr for Parts {
 }
 
 // The items, and the ending in words: `finished` or `fault 12 input 0 item 70`.
-pub(crate) type Told = Whole<Parts, String>;
+pub(crate) type Expected = Whole<Parts, String>;
 
 // Reads a line that tells the pile in words, one as `81 items, sum 125, finished`, and then an item a line.
-pub(crate) fn read(heap: Global, text: &str) -> anyhow::Result<Told> {
+pub(crate) fn read(heap: Global, text: &str) -> anyhow::Result<Expected> {
     let mut lines = text.lines();
     let summary = lines
         .nth(1)
@@ -53,7 +53,7 @@ pub(crate) fn read(heap: Global, text: &str) -> anyhow::Result<Told> {
 }
 
 // What the source hands out from where it stands.
-pub(crate) fn played<S: Source>(heap: Global, source: &mut S) -> Result<Told, AllocError>
+pub(crate) fn played<S: Source>(heap: Global, source: &mut S) -> Result<Expected, AllocError>
 where
     S::Item: Sample,
 {

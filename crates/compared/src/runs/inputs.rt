@@ -1,15 +1,14 @@
 // Random inputs and settings.
 use crate::runs::random::Random;
 use anyhow::anyhow;
-use comparison::whole::Whole;
 use recordings::pair::Input;
-use samples::converter::ConverterSample;
 use samples::gain_index::GainIndex;
+use samples::kinds::ConverterSample;
 use samples::sample::Sample;
-use settings::paths::RawPath;
 use settings::refusal::SettingRefusal;
-use settings::settings::Settings;
+use settings::settings::{RawPath, Settings};
 use sources::fault::{Ending, Fault, FaultKind};
+use sources::whole::Whole;
 use std::alloc::{AllocError, Global};
 
 // Finished, or a fault at the place behind the items.

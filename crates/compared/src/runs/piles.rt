@@ -2,10 +2,8 @@
 use crate::runs::inputs::{random_gains, random_settings, random_signal};
 use crate::runs::random::Random;
 use chain::standard::{StandardChain, standard_chain};
-use comparison::whole::Whole;
-use samples::converter::ConverterSample;
 use samples::gain_index::GainIndex;
-use samples::kinds::WorkingSample;
+use samples::kinds::{ConverterSample, WorkingSample};
 use samples::sample::Sample;
 use settings::settings::Settings;
 use sources::each::Each;
@@ -14,12 +12,12 @@ use sources::lead::Lead;
 use sources::listed::Listed;
 use sources::pairing::Pairing;
 use sources::scan::Scan;
-use stages::adding::Adding;
-use stages::clock::Clock;
-use stages::frequency::Rotator;
-use stages::gains::{FixedGain, ReceiveGain};
+use sources::whole::Whole;
+use stages::clock_offset::Clock;
+use stages::frequency_offset::Rotator;
+use stages::gain::{FixedGain, ReceiveGain};
 use stages::multipath::Multipath;
-use stages::noise::Noise;
+use stages::noise::{Adding, Noise};
 use stages::scaling::Scaling;
 use std::alloc::Global;
 
@@ -80,8 +78,8 @@ impl Inputs {
     pub(crate) fn echoes(&self) -> Echoes<'_> {
         let settings = &self.settings;
         let first = WorkingSample { re: 1000, im: -1 };
-        let led = Lead::new(settings.lead, first, self.scaled());
-        let clocked = Clock::new(settings.clock_bypass, settings.clock, led);
+        let lead = Lead::new(settings.lead, first, self.scaled());
+        let clocked = Clock::new(settings.clock_bypass, settings.clock, lead);
         Scan::new(Multipath::new(settings.paths), clocked)
     }
 
@@ -99,8 +97,8 @@ impl Inputs {
 
     // Receive gain over noise, with its indices behind a lead.
     pub(crate) fn gained(&self) -> Gained<'_> {
-        let led = Lead::new(self.settings.lead, GainIndex::new(0), self.indices());
-        let beside = Pairing::new(self.noise(), led);
+        let lead = Lead::new(self.settings.lead, GainIndex::new(0), self.indices());
+        let beside = Pairing::new(self.noise(), lead);
         Each::new(ReceiveGain::new(self.settings.receive_gains), beside)
     }
 

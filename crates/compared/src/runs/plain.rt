@@ -1,8 +1,8 @@
 // The plain player: it knows the whole, and keeps only the place.
-use comparison::whole::Whole;
 use player::calls::{Answer, Call};
 use player::fault::PlayerFault;
 use sources::fault::Ending;
+use sources::whole::Whole;
 
 #[derive(Drop)]
 pub(crate) struct Plain<T> {

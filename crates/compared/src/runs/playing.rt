@@ -2,7 +2,6 @@
 // the whole buffer is shown after the count.
 use anyhow::{Context, anyhow, bail};
 use comparison::table::{Row, is_entry};
-use comparison::whole::Whole;
 use player::calls::{Answer, Call};
 use player::fault::PlayerFault;
 use player::run::run;
@@ -10,6 +9,7 @@ use recordings::pair::Input;
 use samples::gain_index::GainIndex;
 use sources::fault::{Ending, Fault, FaultKind};
 use sources::listed::Listed;
+use sources::whole::Whole;
 use stages::worked::worked_examples;
 use std::alloc::Global;
 use std::fmt::Write;

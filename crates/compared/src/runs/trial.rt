@@ -4,11 +4,11 @@ use crate::runs::plain::Plain;
 use crate::runs::random::Random;
 use anyhow::ensure;
 use comparison::tally::Tally;
-use comparison::whole::Whole;
 use player::calls::{Answer, Call};
 use player::run::run;
 use samples::sample::Sample;
 use sources::source::Source;
+use sources::whole::Whole;
 use std::alloc::{AllocError, Global};
 use std::fmt;
 

@@ -10,7 +10,7 @@ use crate::fault::Wrong;
 use crate::number::Switch;
 use crate::numbers::Numbers;
 use crate::settings_file::setting::Setting;
-use settings::paths::RawPath;
+use settings::settings::RawPath;
 
 // A `for` in both: only so it is known that without rows no memory is taken.
 fn table(numbers: Numbers<'_>) -> Result<Setting, Wrong>

@@ -11,7 +11,7 @@ use crate::settings_file::setting::Setting;
 use settings::settings::Settings;
 use std::alloc::Global;
 
-// Carries the setting out, or tells its line.
+// Carries the setting out, or reports its line.
 fn put(setting: Numbered<Setting>, made: &mut Settings) -> Result<(), LineFault>
     ensures { Puts setting made.old result made.new }
 {
@@ -21,8 +21,9 @@ fn put(setting: Numbered<Setting>, made: &mut Settings) -> Result<(), LineFault>
     })
 }
 
-/// What the settings of the file make of fresh ones, in order. The first line that is wrong or refused
-/// stops it. Memory is taken for the rows of a table or of paths, and to quote a word that is wrong.
+/// What the settings of the file make of fresh ones, in order. The first line that is wrong or
+/// refused stops it. Memory is taken for the rows of a table or of paths, and to quote a word that
+/// is wrong.
 pub fn read(heap: Global, bytes: &[u8]) -> Result<Settings, LineFault>
     ensures { MatchResult result
         (Makes (entries_of bytes.now) fresh)

@@ -2,19 +2,21 @@
 ghost use Rattle.std.specs.Prelude.{◌≡◌};
 ghost use Rattle.text.specs.Settings.{answered, changed};
 
-use settings::paths::RawPath;
 use settings::refusal::SettingRefusal;
-use settings::settings::Settings;
+use settings::settings::{RawPath, Settings};
 
-/// One setting, as a line of the file gives it: the numbers of a setting call, not yet tested for their
-/// range.
+/// One setting, as a line of the file gives it: the numbers of a setting call, not yet tested for
+/// their range.
 #[derive(Drop)]
 pub enum Setting {
+    /// `scale`: 256 for 1.
     Scale(u16),
+    /// `tx_dc`: in working samples' units.
     TxDc {
         re: i16,
         im: i16,
     },
+    /// `tx_imbalance`: 16384 for 1.
     TxImbalance {
         a: i16,
         b: i16,
@@ -25,29 +27,40 @@ pub enum Setting {
         amplitudes: Vec<u16>,
         phases: Vec<i16>,
     },
+    /// `amplifier_bypass`: whether the amplifier is left out.
     AmplifierBypass(bool),
+    /// `paths`: one path or more.
     Paths(Vec<RawPath>),
+    /// `frequency`: 2^48 for a turn a sample.
     Frequency(i64),
+    /// `clock`: in units of 2^-53 of a sample.
     Clock(i64),
+    /// `clock_bypass`: whether the clock stage is left out.
     ClockBypass(bool),
+    /// `gain`: factor × 2^(shift - 8).
     Gain {
         shift: i16,
         factor: u16,
     },
+    /// `seeds`: of both parts' noise.
     Seeds {
         re: u32,
         im: u32,
     },
+    /// `receive_gain`: the gain of an index.
     ReceiveGain {
         index: u8,
         shift: i16,
         factor: u16,
     },
+    /// `lead`: in samples.
     Lead(u16),
+    /// `rx_dc`: in air samples' units.
     RxDc {
         re: i16,
         im: i16,
     },
+    /// `rx_imbalance`: 16384 for 1.
     RxImbalance {
         a: i16,
         b: i16,
@@ -56,7 +69,8 @@ pub enum Setting {
 }
 
 impl Setting {
-    /// Puts the setting into the settings, or answers why it is refused and leaves them as they were.
+    /// Puts the setting into the settings, or answers why it is refused and leaves them as they
+    /// were.
     pub fn carry_out(&self, settings: &mut Settings) -> Result<(), SettingRefusal>
         ensures answers { result ≡ answered self.now }
         ensures leaves { settings.new ≡ changed self.now settings.old }

@@ -1,10 +1,10 @@
-// What reading a file tells: the line that stops it, and why.
+// What reading a file answers: the line that stops it, and why.
 use crate::settings_file::reader::read;
 use std::alloc::{AllocError, Global};
 use std::test::Fail;
 
 // What the file comes to, in words.
-fn told(heap: Global, bytes: &[u8]) -> Result<String, AllocError> {
+fn answer_in_words(heap: Global, bytes: &[u8]) -> Result<String, AllocError> {
     match read(heap, bytes) {
         Ok(_) => String::from_str(heap, "accepted"),
         Err(fault) => format!(in heap; "{fault}"),
@@ -21,7 +21,7 @@ fn blanks_line_ends_and_comments(rt: HostRuntime) -> Result<(), Fail> {
         b"clock -0#tight",
         b"paths 8192 0 0 1 -2 63",
     ] {
-        let words = told(rt.alloc(), bytes)?;
+        let words = answer_in_words(rt.alloc(), bytes)?;
         assert!(rt; words.as_str() == "accepted");
     }
     Ok(())
@@ -45,7 +45,7 @@ fn lines_that_are_no_setting(rt: HostRuntime) -> Result<(), Fail> {
         ),
         (b"\nlead 1\n\xff", "3: the line is not UTF-8 text"),
     ] {
-        let words = told(rt.alloc(), bytes)?;
+        let words = answer_in_words(rt.alloc(), bytes)?;
         assert!(rt; words.as_str() == expected);
     }
     Ok(())
@@ -65,7 +65,7 @@ fn the_first_line_stops_the_file(rt: HostRuntime) -> Result<(), Fail> {
             "1: refused 13: the index of a receive gain must be 0 to 127",
         ),
     ] {
-        let words = told(rt.alloc(), bytes)?;
+        let words = answer_in_words(rt.alloc(), bytes)?;
         assert!(rt; words.as_str() == expected);
     }
     Ok(())

@@ -1,16 +1,16 @@
 // What a player answered, in text.
 ghost use Rattle.std.specs.Prelude.{Some, map};
 ghost use Rattle.std.specs.Fmt.{WritesOnOk};
-ghost use Rattle.player.specs.Calls.{told};
+ghost use Rattle.player.specs.Calls.{answered};
 ghost use Rattle.text.specs.Answers.{answer_lines, answer_text, filled_text, item_text};
 
 use crate::numbered::Numbered;
 use crate::transcript::step::Step;
 use player::calls::Answer;
-use samples::converter::ConverterSample;
+use samples::kinds::ConverterSample;
 use std::fmt;
 
-/// A step and its answer, told in one line: `next: item -95 53`, `next: no item`,
+/// A step and its answer, said in one line: `next: item -95 53`, `next: no item`,
 /// `fill 3: 3; 1 2; 3 4; 5 6`, `skip 9: fault 12 input 0 item 250 place 251` or `rewind: done`.
 #[derive(Clone, Copy)]
 pub struct AnswerLine<'a> {
@@ -54,7 +54,7 @@ fn write_filled<W: fmt::Write>(
 }
 
 impl<'a> fmt::Display for AnswerLine<'a> {
-    ghost output = { λ line. Some (answer_text line.step (told line.answer.now)) };
+    ghost output = { λ line. Some (answer_text line.step (answered line.answer.now)) };
 
     fn fmt<W: fmt::Write>(&self, f: &mut fmt::Formatter<W>) -> fmt::Result {
         let step = self.step;
@@ -81,7 +81,7 @@ pub struct AnswerLines<'a> {
 }
 
 impl<'a> fmt::Display for AnswerLines<'a> {
-    ghost output = { λ all. Some (answer_lines all.steps.now (map told all.answers.now)) };
+    ghost output = { λ all. Some (answer_lines all.steps.now (map answered all.answers.now)) };
 
     fn fmt<W: fmt::Write>(&self, f: &mut fmt::Formatter<W>) -> fmt::Result {
         for (step, answer) in self.steps.iter().zip(self.answers) {

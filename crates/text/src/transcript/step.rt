@@ -9,7 +9,7 @@ use crate::entry::Entry;
 use crate::fault::Wrong;
 use crate::numbered::Numbered;
 use player::calls::Call;
-use samples::converter::ConverterSample;
+use samples::kinds::ConverterSample;
 use samples::sample::Sample;
 use std::alloc::{AllocError, Global};
 use std::fmt;
@@ -17,11 +17,13 @@ use std::fmt;
 /// A call of a player, as a line of a file of calls says it.
 #[derive(Clone, Copy)]
 pub enum Step {
+    /// The next item.
     Next,
     /// How many items are wanted.
     Fill(u32),
     /// How many items are passed over.
     Skip(u32),
+    /// Back to the start.
     Rewind,
 }
 
@@ -46,8 +48,8 @@ impl Step {
     }
 }
 
-/// The calls that the steps stand for, in order. Memory is taken to keep them: no steps make no calls,
-/// whatever memory there is.
+/// The calls that the steps stand for, in order. Memory is taken to keep them: no steps make no
+/// calls, whatever memory there is.
 pub fn calls_of(
     heap: Global,
     steps: &[Numbered<Step>],

@@ -1,4 +1,4 @@
-// Files of calls, and what is told of their answers.
+// Files of calls, and what is reported of their answers.
 use crate::entries::read_all;
 use crate::transcript::answers::AnswerLines;
 use crate::transcript::step::{Step, calls_of};

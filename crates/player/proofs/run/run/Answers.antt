@@ -1,6 +1,6 @@
 use Rattle.std.proofs.Common.{List, [], map, vec_items, sym, ap, subst, arith}
 use Rattle.std.proofs.lemmas.Grind.{common_steps}
-use Rattle.player.specs.Calls.{Told, told}
+use Rattle.player.specs.Calls.{Answered, answered}
 use Rattle.player.specs.Runs.{RunFrom, begun}
 use Rattle.player.proofs.Running.{goes_on}
 use Rattle.player.proofs.run.run.Goals as goal
@@ -9,7 +9,7 @@ pub loop-call-init : goal.loop-call-init
 loop-call-init g c =
     let s = c.new-player.result in
     record {
-      run = subst (λ (tells : List (Told _)). RunFrom s [] tells s) (sym (ap (map told) c.new-answers.ensures.items)) begun;
+      run = subst (λ (tells : List (Answered _)). RunFrom s [] tells s) (sym (ap (map answered) c.new-answers.ensures.items)) begun;
       calls = c.into_iter-call-iterator.ensures.into_iter_gives.0;
     }
 

@@ -16,15 +16,13 @@ loop-preserved g c =
 pub returns-in-Ok-None : goal.returns-in-Ok-None
 returns-in-Ok-None g c =
     let a : Ok None ≡ answer (g.S.Source.left c.loop.source) = sym (c.in-Ok-None.is ∙ ap Ok c.in-Ok-None.field-0-is) ∙ c.next.ensures.answers in
-    let e = over c.args.recording.now.samples c.args.bytes.now (g.S.Source.left c.args.source.now) (g.S.Source.whole c.args.source.now)
+    over c.args.recording.now.samples c.args.bytes.now (g.S.Source.left c.args.source.now) (g.S.Source.whole c.args.source.now)
     c.loop.counter c.loop.recording.samples c.loop.bytes (g.S.Source.left c.loop.source) (g.S.Source.whole c.loop.source) c.loop.invariant
-    c.args.room (Ok tt) c.loop-test.true a (g.S.Source.left c.next.new.self) (g.S.Source.whole c.next.new.self) c.next.ensures.moves c.next.ensures.same in
-    record { answer = e.answered; count = e.counted; bytes = e.written; left = e.behind; whole = e.same }
+    c.args.room (Ok tt) c.loop-test.true a (g.S.Source.left c.next.new.self) (g.S.Source.whole c.next.new.self) c.next.ensures.moves c.next.ensures.same
 
 pub returns-in-Err : goal.returns-in-Err
 returns-in-Err g c =
     let a : Err c.in-Err.fault ≡ answer (g.S.Source.left c.loop.source) = sym c.in-Err.is ∙ c.next.ensures.answers in
-    let e = over c.args.recording.now.samples c.args.bytes.now (g.S.Source.left c.args.source.now) (g.S.Source.whole c.args.source.now)
+    over c.args.recording.now.samples c.args.bytes.now (g.S.Source.left c.args.source.now) (g.S.Source.whole c.args.source.now)
     c.loop.counter c.loop.recording.samples c.loop.bytes (g.S.Source.left c.loop.source) (g.S.Source.whole c.loop.source) c.loop.invariant
-    c.args.room (Err c.in-Err.fault) c.loop-test.true a (g.S.Source.left c.next.new.self) (g.S.Source.whole c.next.new.self) c.next.ensures.moves c.next.ensures.same in
-    record { answer = e.answered; count = e.counted; bytes = e.written; left = e.behind; whole = e.same }
+    c.args.room (Err c.in-Err.fault) c.loop-test.true a (g.S.Source.left c.next.new.self) (g.S.Source.whole c.next.new.self) c.next.ensures.moves c.next.ensures.same

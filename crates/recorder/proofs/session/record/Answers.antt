@@ -1,5 +1,5 @@
 use Rattle.std.proofs.Common.{ℕ, ◌-◌, ◌/◌, length, sym, ap, ◌∙◌}
-use Rattle.recorder.proofs.Sittings.{Session, session}
+use Rattle.recorder.proofs.Sessions.{Session, session}
 use Rattle.recorder.proofs.session.record.Goals as goal
 use Rattle.recorder.proofs.session.record.Goals.{After-unwrap-length}
 

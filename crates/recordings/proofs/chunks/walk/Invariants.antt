@@ -1,4 +1,4 @@
-use Rattle.std.proofs.Common.{◌-◌, ◌^◌, ◌<◌, ◌≤◌, length, None}
+use Rattle.std.proofs.Common.{◌-◌, ◌≤◌, length, None}
 use Rattle.recordings.specs.Chunks.{chunks}
 use Rattle.recordings.proofs.Walks.{Walking}
 use Rattle.recordings.proofs.chunks.walk.Given as goal
@@ -7,7 +7,6 @@ abbrev pub invariant-loop-next : goal.invariant-loop-next
 invariant-loop-next l =
     record {
       within : l.at ≤ length l.bytes;
-      few_bytes : length l.bytes < 2 ^ 33;
       as_all : Walking l.format l.bytes (chunks l.format l.bytes (length l.bytes) 12 None) l.at l.rate;
     }
 

@@ -1,6 +1,5 @@
-use Rattle.std.proofs.Common.{refl}
 use Rattle.settings.proofs.Accepted.{scale_made}
 use Rattle.settings.proofs.checks.checked_scale.Goals as goal
 
 pub returns : goal.returns
-returns c = scale_made _ c.args.factor refl
+returns c = scale_made _

@@ -1,6 +1,5 @@
-use Rattle.std.proofs.Common.{refl}
 use Rattle.settings.proofs.Accepted.{seeds_made}
 use Rattle.settings.proofs.checks.checked_seeds.Goals as goal
 
 pub returns : goal.returns
-returns c = seeds_made _ c.args.re c.args.im refl refl
+returns c = seeds_made _

@@ -1,6 +1,5 @@
-use Rattle.std.proofs.Common.{◌<◌, length, sym, ◌∙◌, eqb-true, arith, refl}
+use Rattle.std.proofs.Common.{◌<◌, length, arith, refl}
 use Rattle.std.proofs.lemmas.Bool.Decides.{nat_tests}
-use Rattle.std.proofs.lemmas.List.{nil_from_length}
 use Rattle.text.proofs.Splitting.{first_of_lines}
 use Rattle.text.proofs.lines.LinesIterator.next.Goals as goal
 
@@ -9,6 +8,3 @@ returns-clause-steps c =
     let some : 0 < length c.args.self.now.rest.now = grind (arith, nat_tests, c.is_empty.ensures, c.if-is_empty.false) in
     let split = c.split_line.ensures in
     (split.line, first_of_lines _ _ _ split.line split.within some, split.less some, c.saturating_add-self.ensures, refl)
-
-pub returns-then-is_empty-clause-steps : goal.returns-then-is_empty-clause-steps
-returns-then-is_empty-clause-steps c = (nil_from_length c.args.self.now.rest.now (eqb-true _ _ (sym c.is_empty.ensures ∙ c.if-is_empty.true)), refl)

@@ -1,5 +1,5 @@
-use Rattle.std.proofs.Common.{[], ◌∷◌, refl}
-use Rattle.text.proofs.Rows.{exit, spells_some, lacks_first}
+use Rattle.std.proofs.Common.{[], ◌∷◌, is_some, refl, ap}
+use Rattle.text.proofs.Rows.{exit, lacks_first}
 use Rattle.text.proofs.row.Tuple1Row.read.Goals as goal
 
 pub returns-in_err-of_word-clause-read : goal.returns-in_err-of_word-clause-read
@@ -7,5 +7,4 @@ returns-in_err-of_word-clause-read g c = exit _ _ _ _ c.from_residual.ensures.1 
 
 pub returns-clause-read : goal.returns-clause-read
 returns-clause-read g c =
-    let first = spells_some g.A.Number.spelled g.A.Number.range c.args.first.now _ c.in_ok-of_word.ensures in
-    (c.args.first.now ∷ [], refl, (first, tt), (c.args.first.now, refl, c.in_ok-of_word.ensures))
+    (c.args.first.now ∷ [], refl, (ap is_some c.in_ok-of_word.ensures, tt), (c.args.first.now, refl, c.in_ok-of_word.ensures))

@@ -1,7 +1,7 @@
-use Rattle.std.proofs.Common.{[], ◌∷◌, refl, ap, ◌∙◌}
+use Rattle.std.proofs.Common.{[], ◌∷◌, is_some, refl, ap, ◌∙◌}
 use Rattle.text.specs.Faults.{kind_of, Lacks}
 use Rattle.text.specs.Taking.{numbers_left}
-use Rattle.text.proofs.Rows.{exit, spells_some, lacks_first, lacks_later}
+use Rattle.text.proofs.Rows.{exit, lacks_first, lacks_later}
 use Rattle.text.proofs.row.Tuple3Row.read.Goals as goal
 
 pub returns-in_err-a-clause-read : goal.returns-in_err-a-clause-read
@@ -9,24 +9,19 @@ returns-in_err-a-clause-read g c = exit _ _ _ _ c.from_residual.ensures.1 (lacks
 
 pub returns-in_err-b-clause-read : goal.returns-in_err-b-clause-read
 returns-in_err-b-clause-read g c =
-    let first = spells_some g.A.Number.spelled g.A.Number.range c.args.first.now _ c.in_ok-a.ensures in
-    exit _ _ _ _ c.from_residual-in_err-b.ensures.1 (lacks_later _ _ _ _ _ _ first (lacks_first _ _ _ _ _ c.in_err-b.ensures.read))
+    exit _ _ _ _ c.from_residual-in_err-b.ensures.1 (lacks_later _ _ _ _ _ _ _ _ c.in_ok-a.ensures (lacks_first _ _ _ _ _ c.in_err-b.ensures.read))
 
 pub returns-in_err-c-clause-read : goal.returns-in_err-c-clause-read
 returns-in_err-c-clause-read g c =
-    let first = spells_some g.A.Number.spelled g.A.Number.range c.args.first.now _ c.in_ok-a.ensures in
     let next = c.in_ok-b.ensures.read in
-    let second = spells_some g.B.Number.spelled g.B.Number.range next.0 _ next.2 in
     let form = ap (λ f. f.now) c.in_ok-b.ensures.form in
     let third : Lacks c.args.behind.now.form.now (kind_of g.C.Number.spelled g.C.Number.range ∷ []) (numbers_left c.number.new.self) c.in_err-c.field-0.0 = lacks_first _ _ _ _ _ (rw form at c.in_err-c.ensures.read) in
     exit _ _ _ _ c.from_residual-in_err-c.ensures.1
-    (lacks_later _ _ _ _ _ _ first (rw next.1 (lacks_later _ _ _ _ _ _ second third)))
+    (lacks_later _ _ _ _ _ _ _ _ c.in_ok-a.ensures (rw next.1 (lacks_later _ _ _ _ _ _ _ _ next.2 third)))
 
 pub returns-clause-read : goal.returns-clause-read
 returns-clause-read g c =
-    let first = spells_some g.A.Number.spelled g.A.Number.range c.args.first.now _ c.in_ok-a.ensures in
+    let first = c.args.first.now in
     let next = c.in_ok-b.ensures.read in
-    let second = spells_some g.B.Number.spelled g.B.Number.range next.0 _ next.2 in
     let last = c.in_ok-c.ensures.read in
-    let third = spells_some g.C.Number.spelled g.C.Number.range last.0 _ last.2 in
-    (c.args.first.now ∷ next.0 ∷ last.0 ∷ [], ap (λ words. c.args.first.now ∷ words) (next.1 ∙ ap (λ words. next.0 ∷ words) last.1), (first, (second, (third, tt))), (c.args.first.now, next.0, last.0, refl, c.in_ok-a.ensures, next.2, last.2))
+    (first ∷ next.0 ∷ last.0 ∷ [], ap (λ words. first ∷ words) (next.1 ∙ ap (λ words. next.0 ∷ words) last.1), (ap is_some c.in_ok-a.ensures, (ap is_some next.2, (ap is_some last.2, tt))), (first, next.0, last.0, refl, c.in_ok-a.ensures, next.2, last.2))

@@ -1,5 +1,4 @@
-use Rattle.std.proofs.Common.{[], ◌∷◌, ◌++◌, sym, ap, ◌∙◌, subst, append-nil}
-use Rattle.std.specs.List.{AllZip}
+use Rattle.std.proofs.Common.{[], ◌∷◌, ◌++◌, sym, ap, ◌∙◌, subst}
 use Rattle.std.proofs.lemmas.List.Elements.{All-push}
 use Rattle.std.proofs.lemmas.List.Sums.{fold_push}
 use Rattle.text.specs.Entries.{Holds, IsWrong, Reads, entries_of, entries_left}
@@ -9,7 +8,7 @@ use Rattle.settings.specs.Fresh.{fresh}
 use Rattle.text.specs.Files.{Accepted}
 use Rattle.text.specs.Forms.{Says, Complains}
 use Rattle.text.specs.Settings.{changed}
-use Rattle.text.proofs.Carrying.{refused_stops, stopped}
+use Rattle.text.proofs.Carrying.{stopped}
 use Rattle.text.proofs.settings_file.reader.read.Goals as goal
 
 pub loop-entry-preserved : goal.loop-entry-preserved
@@ -36,25 +35,3 @@ returns-in_err-entry c =
     let wrong : IsWrong Complains step.0 c.in_err-entry.field-0.0 = subst (Reads Says Complains step.0) c.in_err-entry.was step.2 in
     exit _ _ _ _ c.from_residual.ensures.1
     (stopped (entries_of c.args.bytes.now) (entries_left c.loop-entry.entry-iterator) (entries_left c.next.new.self) so_far.0 step.0 _ so_far.1 so_far.2 step.1 wrong.0 wrong.1)
-
-pub returns-in_err-put : goal.returns-in_err-put
-returns-in_err-put c =
-    let step = c.in-Some.ensures.steps in
-    let so_far = c.loop-entry.invariant.2 in
-    let one = c.in_ok-entry.field-0 in
-    let holds : Holds Says step.0 one = subst (Reads Says Complains step.0) c.in_ok-entry.was step.2 in
-    let refused = c.in_err-put.ensures in
-    exit _ _ _ _ c.from_residual-in_err-put.ensures.1
-    (stopped (entries_of c.args.bytes.now) (entries_left c.loop-entry.entry-iterator) (entries_left c.next.new.self) so_far.0 step.0 _ so_far.1 so_far.2 step.1 (refused.0 ∙ holds.0) (refused_stops step.0.1 one.held c.in_err-put.field-0.0.stop holds.1 holds.2 refused.1))
-
-pub returns : goal.returns
-returns c =
-    let so_far = c.loop-entry.invariant.2 in
-    let passed = so_far.1 in
-    let all = passed.1 ∙ ap (λ ls. passed.0 ++ ls) c.in-None.ensures.steps.0 ∙ append-nil passed.0 in
-    record {
-      said = so_far.0;
-      hold = subst (λ entries. AllZip (Holds Says) entries so_far.0) (sym all) passed.2;
-      accepted = so_far.2;
-      made_is = so_far.3;
-    }

@@ -1,7 +1,7 @@
 use Rattle.std.proofs.Common.{◌++◌, rules}
 use Rattle.std.proofs.Output.{has_written_append}
 use Rattle.text.specs.Answers.{placed_text}
-use Rattle.text.proofs.Told.{samples_more}
+use Rattle.text.proofs.Answered.{samples_more}
 use Rattle.text.proofs.transcript.answers.write_filled.Goals as goal
 
 pub loop-sample-preserved : goal.loop-sample-preserved

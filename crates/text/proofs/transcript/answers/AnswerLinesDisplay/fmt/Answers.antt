@@ -3,10 +3,10 @@ use Rattle.std.proofs.Output.{has_written_append, has_written_of_eq}
 use Rattle.std.specs.Iterator.Adapters.{zip_first, zip_second}
 use Rattle.std.specs.Slice.Iter.{iter_rest}
 use Rattle.std.proofs.lemmas.Slice.Zip.{Zip-more, either_empty_from_Zip}
-use Rattle.player.specs.Calls.{told}
+use Rattle.player.specs.Calls.{answered}
 use Rattle.text.specs.Lines.{feed}
 use Rattle.text.specs.Answers.{answer_text}
-use Rattle.text.proofs.Told.{lines_more, lines_end}
+use Rattle.text.proofs.Answered.{lines_more, lines_end}
 use Rattle.text.proofs.transcript.answers.AnswerLinesDisplay.fmt.Goals as goal
 
 pub loop-step-preserved : goal.loop-step-preserved
@@ -20,7 +20,7 @@ loop-step-preserved g c =
       tt,
       λ plain.
           let so_far = c.loop-step.invariant.2 plain in (
-            so_far.0 ++ (answer_text step.held (told answer) ++ feed ∷ []),
+            so_far.0 ++ (answer_text step.held (answered answer) ++ feed ∷ []),
             has_written_append _ _ _ _ _ _ so_far.1 (search rules),
             lines_more so_far.0 _ (iter_rest (zip_first s)) (iter_rest (zip_first t)) (iter_rest (zip_second s)) (iter_rest (zip_second t)) step answer so_far.2 taken.0 taken.1,
           ),

@@ -1,0 +1,60 @@
+-- Recordings that open.
+use Rattle.std.proofs.Common.{◌≡◌, ℕ, min, List, Ok, Err, OnOk, Option, Result, string_bytes, sym, ap, ◌∙◌, subst}
+use Rattle.samples.specs.declared.kinds.ConverterSample.{ConverterSample}
+use Rattle.samples.specs.declared.gain_index.GainIndex.{GainIndex}
+use Rattle.chain.specs.Chains.{played}
+use Rattle.settings.specs.declared.settings.Settings.{Settings}
+use Rattle.recordings.specs.Opening.{Opened}
+use Rattle.program.specs.Files.{Adds, File, counted_files, files_of}
+use Rattle.program.specs.Names.{numbered}
+use Rattle.program.specs.Outcomes.{Copies, Plays, files_taken, written_of}
+use Rattle.program.specs.Sides.{first_ended, sides_answer, sides_of}
+use Rattle.program.specs.declared.copy.Copied.{Copied}
+use Rattle.program.specs.declared.play.Played.{Played}
+use Rattle.program.specs.declared.sides.Sides.{Sides}
+use Rattle.program.proofs.Lengths.{played_length}
+
+-- the sides that were counted before are those of the recordings
+pub same_sides : {E F : Type 0} (s : Settings) (link : Result (Opened ConverterSample × Opened GainIndex) E) (both : Opened ConverterSample × Opened GainIndex) (sides : Sides) (ending : Result (Unit {0}) F)
+    → sides_answer s link ≡ Ok sides → link ≡ Ok both → first_ended ending sides ≡ first_ended ending (sides_of s both.0.whole both.1.whole)
+same_sides s link both sides ending h k =
+    let answer : Ok (sides_of s both.0.whole both.1.whole) ≡ Ok sides = sym (ap (sides_answer s) k) ∙ h in
+    let same : sides ≡ sides_of s both.0.whole both.1.whole = cc in
+    ap (first_ended ending) same
+
+-- the files that the sides take are those of the chain
+pub taken : {E : Type 0} (s : Settings) (link : Result (Opened ConverterSample × Opened GainIndex) E) (sides : Sides)
+    → sides_answer s link ≡ Ok sides → counted_files (min sides.signal sides.gain) ≡ files_taken s link
+taken s (Ok both) sides h =
+    let same : sides ≡ sides_of s both.0.whole both.1.whole = cc in
+    ap (λ (v : Sides). counted_files (min v.signal v.gain)) same ∙ ap counted_files (sym (played_length s both.0.whole both.1.whole))
+taken s (Err e) sides h = cc
+
+-- what was written of a recording that opened
+pub copies : {E : Type 0} (opening : Result (Opened ConverterSample) E) (o : Opened ConverterSample) (to : List ℕ) (before after : Option (List File)) (answer : Copied)
+    → opening ≡ Ok o → answer.rate ≡ o.rate → answer.written ≡ written_of o.whole → Adds (files_of to answer.rate o.whole.items) before after
+    → string_bytes answer.last ≡ numbered to answer.written.files → Copies opening to before after answer
+copies opening o to before after answer opens rate written files last =
+    subst (λ (x : Result (Opened ConverterSample) _). Copies x to before after answer) (sym opens)
+    (record { rate = rate; written = written; files = subst (λ (r : ℕ). Adds (files_of to r o.whole.items) before after) rate files; last = last })
+
+-- what was written of a chain over recordings that opened
+pub plays : {E : Type 0} (s : Settings) (link : Result (Opened ConverterSample × Opened GainIndex) E) (both : Opened ConverterSample × Opened GainIndex)
+    (sides : Sides) (to : List ℕ) (before after : Option (List File)) (answer : Played)
+    → link ≡ Ok both → sides_answer s link ≡ Ok sides → answer.rate ≡ both.0.rate
+    → answer.written ≡ written_of (played s both.0.whole both.1.whole) → Adds (files_of to answer.rate (played s both.0.whole both.1.whole).items) before after
+    → string_bytes answer.last ≡ numbered to answer.written.files → answer.first_ended ≡ first_ended answer.written.ending sides → Plays s link to before after answer
+plays s link both sides to before after answer opens known rate written files last first =
+    subst (λ (x : Result (Opened ConverterSample × Opened GainIndex) _). Plays s x to before after answer) (sym opens)
+    (record {
+      rate = rate;
+      written = written;
+      files = subst (λ (r : ℕ). Adds (files_of to r (played s both.0.whole both.1.whole).items) before after) rate files;
+      last = last;
+      first = first ∙ same_sides s link both sides answer.written.ending known opens;
+    })
+
+-- what holds in any case holds of an answer
+pub of_any : {A E P : Type 0} (r : Result A E) → P → OnOk r P
+of_any (Ok x) p = p
+of_any (Err e) p = tt

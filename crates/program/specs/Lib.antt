@@ -1,0 +1,13 @@
+pub mod Arguments
+pub mod Bench
+pub mod Blocks
+pub mod Comparing
+pub mod Contents
+pub mod Files
+pub mod Levels
+pub mod Names
+pub mod Outcomes
+pub mod Refusals
+pub mod Sides
+pub mod Statuses
+pub mod Words

@@ -1,0 +1,209 @@
+// What a run reports, and its status.
+ghost use Rattle.std.specs.Prelude.{◌≡◌, is_some, is_err};
+ghost use Rattle.program.specs.Statuses.{status_of};
+
+use crate::arguments::{USAGE, VERSION};
+use crate::bench::Timed;
+use crate::block::ChainEnding;
+use crate::check::Contents;
+use crate::copy::Copied;
+use crate::failure::Failure;
+use crate::inputs::Inputs;
+use crate::play::Played;
+use crate::printing::{Ends, Files, Kind, Shown};
+use crate::replay::{Compared, Difference, SIZES};
+use player::calls::Answer;
+use recordings::pair::Input;
+use samples::kinds::ConverterSample;
+use sources::fault::AtItem;
+use std::fmt;
+use text::numbered::Numbered;
+use text::transcript::answers::AnswerLines;
+use text::transcript::step::Step;
+
+/// What a command did. It is reported on the standard output.
+#[derive(Drop)]
+pub enum Report<'a> {
+    /// The usage of every command.
+    Usage,
+    /// The name of the program, and the kit that it is proved with.
+    Version,
+    /// The usage, and what the demonstration shows.
+    Demonstrated(String),
+    /// A recording was opened and read.
+    Checked(&'a str, Input, Contents),
+    /// A signal recording was copied; its file, and how it ended.
+    Copied(&'a str, Copied<'a>),
+    /// A chain was played and written.
+    Played(Inputs<'a>, Played<'a>),
+    /// Calls were made, and block sizes compared.
+    Replayed(Vec<Numbered<Step>>, Vec<Answer<ConverterSample>>, Compared),
+    /// A chain was played and timed.
+    Timed(Inputs<'a>, Timed),
+}
+
+fn fmt_copied<W: fmt::Write>(f: &mut fmt::Formatter<W>, copied: &Copied<'_>) -> fmt::Result {
+    let files = Files {
+        to: copied.to,
+        last: copied.last.as_str(),
+        rate: copied.rate,
+        files: copied.written.files,
+    };
+    let samples = copied.written.samples;
+    let ends = Ends(copied.written.ending.map_err(|met| AtItem(met.fault)));
+    write!(f, "{files}\ncopied {samples} samples, {ends}")
+}
+
+fn fmt_first_ended<W: fmt::Write>(f: &mut fmt::Formatter<W>, first: Option<Input>) -> fmt::Result {
+    match first {
+        Some(Input::Signal) => {
+            writeln!(
+                f,
+                "the signal ended first; the gain recording has more samples"
+            )
+        }
+        Some(Input::Gain) => {
+            writeln!(
+                f,
+                "the gain recording ended first; the signal has more samples"
+            )
+        }
+        None => Ok(()),
+    }
+}
+
+fn fmt_played<W: fmt::Write>(f: &mut fmt::Formatter<W>, played: &Played<'_>) -> fmt::Result {
+    let files = Files {
+        to: played.to,
+        last: played.last.as_str(),
+        rate: played.rate,
+        files: played.written.files,
+    };
+    let highest = played.written.levels.highest;
+    let clipped = played.written.levels.clipped;
+    let samples = played.written.samples;
+    let ends = Ends(played.written.ending);
+    writeln!(f, "{files}")?;
+    writeln!(
+        f,
+        "highest level {highest} of 2048, {clipped} samples clipped at the converter"
+    )?;
+    fmt_first_ended(f, played.first_ended)?;
+    write!(f, "played {samples} samples, {ends}")
+}
+
+fn fmt_compared<W: fmt::Write>(f: &mut fmt::Formatter<W>, compared: &Compared) -> fmt::Result {
+    let [first, second, third] = SIZES;
+    let items = compared.items;
+    match compared.difference {
+        None => write!(
+            f,
+            "blocks of {first}, {second} and {third}: {items} items, alike"
+        ),
+        Some(Difference { size, place }) => {
+            write!(
+                f,
+                "blocks of {first} and of {size}: they differ at place {place}"
+            )
+        }
+    }
+}
+
+// Tenths of a nanosecond are cut off, not rounded.
+fn fmt_timed<W: fmt::Write>(f: &mut fmt::Formatter<W>, timed: &Timed) -> fmt::Result {
+    let items = timed.items;
+    let sum = timed.sum;
+    let tenths = timed.time.as_nanos().saturating_mul(10) / u128::from(items.max(1));
+    let whole = tenths / 10;
+    let tenth = tenths % 10;
+    write!(
+        f,
+        "bench: {items} items, {whole}.{tenth} ns per item, sum {sum}"
+    )
+}
+
+impl<'a> fmt::Display for Report<'a> {
+    fn fmt<W: fmt::Write>(&self, f: &mut fmt::Formatter<W>) -> fmt::Result {
+        match self {
+            Report::Usage => write!(f, "{USAGE}"),
+            Report::Version => write!(f, "{VERSION}"),
+            Report::Demonstrated(text) => {
+                let shown = text.trim_end();
+                write!(f, "{USAGE}\n\n{shown}")
+            }
+            Report::Checked(file, input, contents) => {
+                let file = Shown(*file);
+                let kind = Kind(*input);
+                let rate = contents.rate;
+                let items = contents.counted.items;
+                let ends = Ends(contents.counted.ending.map_err(AtItem));
+                write!(
+                    f,
+                    "{file}: {kind} recording, rate {rate}, {items} samples, {ends}"
+                )
+            }
+            Report::Copied(_, copied) => fmt_copied(f, copied),
+            Report::Played(_, played) => fmt_played(f, played),
+            Report::Replayed(steps, answers, compared) => {
+                let lines = AnswerLines {
+                    steps: steps.as_slice(),
+                    answers: answers.as_slice(),
+                };
+                write!(f, "{lines}")?;
+                fmt_compared(f, compared)
+            }
+            Report::Timed(_, timed) => fmt_timed(f, timed),
+        }
+    }
+}
+
+// The fault that a chain ended in, with its file.
+fn fault_of<'a>(inputs: &Inputs<'a>, ending: &ChainEnding) -> Option<Failure<'a>>
+    ensures { is_some result ≡ is_err ending.now }
+{
+    match ending {
+        Ok(()) => None,
+        Err(met) => {
+            let file = inputs.file_numbered(met.fault.input);
+            Some(Failure::Faulted(file, AtItem(met.fault)))
+        }
+    }
+}
+
+impl<'a> Report<'a> {
+    ghost use Rattle.std.specs.Prelude.{◌≡◌, is_some};
+    ghost use Rattle.program.specs.Statuses.{stops};
+
+    /// Why the run stops with status 1, though it did what it reports: a fault, or a difference. A fault is an answer at
+    /// `check` and at `replay`.
+    pub fn failure(&self) -> Option<Failure<'a>>
+        ensures { is_some result ≡ stops self.now }
+    {
+        match self {
+            Report::Copied(from, copied) => match copied.written.ending {
+                Ok(()) => None,
+                Err(met) => Some(Failure::Faulted(*from, AtItem(met.fault))),
+            },
+            Report::Played(inputs, played) => fault_of(inputs, &played.written.ending),
+            Report::Timed(inputs, timed) => fault_of(inputs, &timed.ending),
+            Report::Replayed(_, _, compared) => match compared.difference {
+                None => None,
+                Some(_) => Some(Failure::BlocksDiffer),
+            },
+            _ => None,
+        }
+    }
+}
+
+/// What came of a run: its report, or why it stopped before.
+pub type Outcome<'a> = Result<Report<'a>, Failure<'a>>;
+
+/// The status that a run ends with: 0, or 1 where it stopped, met a fault or found a difference.
+pub fn status(outcome: &Outcome<'_>) -> u8
+    ensures { result ≡ status_of outcome.now }
+{
+    match outcome {
+        Ok(report) => u8::from(report.failure().is_some()),
+        Err(_) => 1,
+    }
+}
