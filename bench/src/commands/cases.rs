@@ -77,7 +77,7 @@ fn ending_json(items: usize, ending: Result<(), Fault>) -> String {
     format!("{{\n \"items\": {items},\n \"ending\": {ending}\n}}\n")
 }
 
-/// A signal of some level and up to `longest` items, spoilt somewhere once in three times.
+/// A signal of some level and up to `longest` items, faulty somewhere once in three times.
 pub fn random_signal(random: &mut Random, rate: u32, longest: i64) -> Vec<u8> {
     let length = random.between(0, longest) as usize;
     let level = [20, 500, 2047][random.between(0, 2) as usize];

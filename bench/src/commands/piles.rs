@@ -145,42 +145,42 @@ impl Pile<AirSample> {
     }
 }
 
-/// A recording of `length` items, spoilt from item `spoilt` on if one is given.
+/// A recording of `length` items, faulty from item `faulty` on if one is given.
 fn recording<K: Kind + 'static>(
     bytes: Vec<u8>,
     input: u8,
     words: &str,
     length: usize,
-    spoilt: Option<usize>,
+    faulty: Option<usize>,
     item: impl Fn(usize) -> K::Item,
 ) -> Pile<K::Item> {
     let open = Recording::<K>::open(bytes.leak(), input).expect("the recording is whole");
-    let items = (0..spoilt.unwrap_or(length)).map(item).collect();
-    let fault = spoilt.map(|item| model::source::Fault { kind: K::FAULT, input, item: item as u64 });
+    let items = (0..faulty.unwrap_or(length)).map(item).collect();
+    let fault = faulty.map(|item| model::source::Fault { kind: K::FAULT, input, item: item as u64 });
     let ending = fault.map_or(Ok(()), Err);
-    let spoilt = spoilt.map_or(String::new(), |item| format!(", item {item} spoilt"));
-    let words = format!("{} recording, input {input}, {length} items, item k = {words}{spoilt}", K::NAME);
+    let faulty = faulty.map_or(String::new(), |item| format!(", item {item} faulty"));
+    let words = format!("{} recording, input {input}, {length} items, item k = {words}{faulty}", K::NAME);
     Pile::lowest(words, open, Whole { items, ending })
 }
 
-fn signal(length: usize, spoilt: Option<usize>) -> Pile<ConverterSample> {
+fn signal(length: usize, faulty: Option<usize>) -> Pile<ConverterSample> {
     let parts = |k: usize| ((k * 37 % 4001) as i64 - 2000, (k * 91 % 3001) as i64 - 1500);
     let mut words: Vec<(i16, i16)> = (0..length).map(parts).map(|(re, im)| (re as i16 * 16, im as i16 * 16)).collect();
-    if let Some(item) = spoilt {
+    if let Some(item) = faulty {
         words[item].1 |= 1;
     }
     let formula = "((k x 37) mod 4001 - 2000, (k x 91) mod 3001 - 1500)";
     let sample = |k| ConverterSample::clipped(parts(k).0, parts(k).1);
-    recording::<Signal>(wave::signal(8000, &words), 0, formula, length, spoilt, sample)
+    recording::<Signal>(wave::signal(8000, &words), 0, formula, length, faulty, sample)
 }
 
-fn indices(length: usize, spoilt: Option<usize>) -> Pile<GainIndex> {
+fn indices(length: usize, faulty: Option<usize>) -> Pile<GainIndex> {
     let mut bytes: Vec<u8> = (0..length).map(|k| (k * 7 % 128) as u8).collect();
-    if let Some(item) = spoilt {
+    if let Some(item) = faulty {
         bytes[item] = 200;
     }
     let index = |k| GainIndex::nearest((k * 7 % 128) as u32);
-    recording::<Gains>(wave::gains(8000, &bytes), 1, "(k x 7) mod 128", length, spoilt, index)
+    recording::<Gains>(wave::gains(8000, &bytes), 1, "(k x 7) mod 128", length, faulty, index)
 }
 
 fn noise(re: u32, im: u32, length: u32) -> Pile<AirSample> {
@@ -202,32 +202,32 @@ fn led(pile: Pile<WorkingSample>, d: u16, re: i64, im: i64) -> Pile<WorkingSampl
     pile.lead(WorkingSample::clipped(re, im), d, &format!("({re}, {im})"))
 }
 
-fn multipath_over_clock(c: i64, length: usize, spoilt: Option<usize>) -> Pile<WorkingSample> {
+fn multipath_over_clock(c: i64, length: usize, faulty: Option<usize>) -> Pile<WorkingSample> {
     let lower = [(8192, 0, 0), (-3000, 2000, 3), (1500, -2500, 17)];
     let upper = [(6000, -1000, 0), (4096, 0, 1), (0, -8192, 63)];
-    signal(length, spoilt).scaling(2048).multipath(&lower).clock(c).multipath(&upper)
+    signal(length, faulty).scaling(2048).multipath(&lower).clock(c).multipath(&upper)
 }
 
 /// The signal on the air, at a signal-to-noise ratio of 20 dB.
-fn air(length: usize, spoilt: Option<usize>) -> Pile<AirSample> {
-    signal(length, spoilt).scaling(1631).gain(2, 155)
+fn air(length: usize, faulty: Option<usize>) -> Pile<AirSample> {
+    signal(length, faulty).scaling(1631).gain(2, 155)
 }
 
-fn noise_twice(spoilt: Option<usize>, inner: u32, outer: u32) -> Pile<AirSample> {
-    air(40, spoilt).adding_noise(noise(7, 8, inner)).adding_noise(noise(1, 12345, outer))
+fn noise_twice(faulty: Option<usize>, inner: u32, outer: u32) -> Pile<AirSample> {
+    air(40, faulty).adding_noise(noise(7, 8, inner)).adding_noise(noise(1, 12345, outer))
 }
 
-fn gain_over_noise(signal_spoilt: Option<usize>, noise_items: u32, gain_spoilt: Option<usize>) -> Pile<AirSample> {
-    let late = indices(40, gain_spoilt).lead(GainIndex::nearest(0), 3, "index 0");
-    air(40, signal_spoilt).adding_noise(noise(1, 12345, noise_items)).receive_gain(late)
+fn gain_over_noise(signal_faulty: Option<usize>, noise_items: u32, gain_faulty: Option<usize>) -> Pile<AirSample> {
+    let late = indices(40, gain_faulty).lead(GainIndex::nearest(0), 3, "index 0");
+    air(40, signal_faulty).adding_noise(noise(1, 12345, noise_items)).receive_gain(late)
 }
 
 fn turned_held(c: i64, d: u16, times: u32) -> Pile<WorkingSample> {
     led(held(20000, -30000, times), d, -32768, 32767).clock(c).frequency((1 << 45) + 12345)
 }
 
-fn receiver(spoilt: Option<usize>) -> Pile<ConverterSample> {
-    let received = gain_over_noise(spoilt, 100, None);
+fn receiver(faulty: Option<usize>) -> Pile<ConverterSample> {
+    let received = gain_over_noise(faulty, 100, None);
     received.dc_offset((-3000, 20000)).imbalance((15416, 17274, -905)).converter()
 }
 
@@ -267,14 +267,14 @@ pub fn write(directory: &std::path::Path) -> Result<ExitCode, Failure> {
     write("frequency-clock-lead-held", text(turned_held(FAST, 4, 50))?)?;
     write("frequency-clock-lead-held-slow", text(turned_held(SLOW, 4, 50))?)?;
     write("frequency-clock-lead-held-empty", text(turned_held(FAST, 0, 0))?)?;
-    let spoilt = led(signal(50, Some(20)).scaling(3000), 4, -32768, 32767).clock(SLOW);
-    write("frequency-clock-lead-fault", text(spoilt.frequency((1 << 45) + 12345))?)?;
+    let faulty = led(signal(50, Some(20)).scaling(3000), 4, -32768, 32767).clock(SLOW);
+    write("frequency-clock-lead-fault", text(faulty.frequency((1 << 45) + 12345))?)?;
 
-    let lead_lead = |spoilt| led(led(signal(20, spoilt).scaling(256), 2, 1, 2), 3, 3, 4);
+    let lead_lead = |faulty| led(led(signal(20, faulty).scaling(256), 2, 1, 2), 3, 3, 4);
     write("lead-lead-fault", text(lead_lead(Some(6)))?)?;
     let frequencies = signal(40, None).scaling(4096).frequency(-(1 << 47)).frequency(675_539_944_106);
     write("frequency-frequency", text(frequencies)?)?;
-    let amplified = |spoilt| signal(60, spoilt).scaling(4096).frequency(1 << 40).amplifier();
+    let amplified = |faulty| signal(60, faulty).scaling(4096).frequency(1 << 40).amplifier();
     write("amplifier-frequency", text(amplified(None))?)?;
     write("amplifier-frequency-fault", text(amplified(Some(41)))?)?;
     Ok(ExitCode::SUCCESS)

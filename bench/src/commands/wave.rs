@@ -1,4 +1,4 @@
-//! The bytes of recordings of any length, spoilt ones too.
+//! The bytes of recordings of any length, faulty ones too.
 
 /// A signal recording of the 16-bit words that are given.
 pub fn signal(rate: u32, words: &[(i16, i16)]) -> Vec<u8> {

@@ -78,7 +78,7 @@ pub trait Kind {
     const ALIGN: u16;
     const BITS: u16;
     const FAULT: FaultKind;
-    /// None if the item is spoilt.
+    /// None if the item is faulty.
     fn item(bytes: &[u8]) -> Option<Self::Item>;
 }
 

@@ -43,7 +43,7 @@ impl FaultKind {
     }
 }
 
-/// The item that is spoilt: its place in the input that has it, from 0.
+/// The item that is faulty: its place in the input that has it, from 0.
 #[derive(Clone, Copy, Debug, PartialEq, Eq)]
 pub struct Fault {
     pub kind: FaultKind,

@@ -112,9 +112,9 @@ fn number(random: &mut Random, wide: bool) -> String {
 /// A whole table of the amplifier, or one with an entry too few or too many, or with an amplitude that is too great.
 fn table(random: &mut Random) -> String {
     let entries = 513 + if random.once_in(6) { random.offset(-513, 2) } else { 0 };
-    let spoilt = if random.once_in(4) { random.between(0, 512) } else { -1 };
+    let faulty = if random.once_in(4) { random.between(0, 512) } else { -1 };
     let entry = |place| {
-        let amplitude = if place == spoilt { random.between(32768, 65535) } else { random.offset(0, 32767) };
+        let amplitude = if place == faulty { random.between(32768, 65535) } else { random.offset(0, 32767) };
         format!(" {amplitude} {}", random.part())
     };
     "amplifier_table".to_owned() + &(0..entries).map(entry).collect::<String>()

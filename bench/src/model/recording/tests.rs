@@ -122,7 +122,7 @@ fn chunks_that_are_passed_over() {
 }
 
 #[test]
-fn the_first_spoilt_item_ends_the_whole() {
+fn the_first_faulty_item_ends_the_whole() {
     let bytes = signal(&[0x40, 6, 0xD0, 0xFF, 0x10, 0, 0x11, 0, 0, 0, 0, 0]);
     let mut recording = Recording::<Signal>::open(&bytes, 9).unwrap();
     let fault = Fault { kind: FaultKind::LowBits, input: 9, item: 1 };
