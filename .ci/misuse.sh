@@ -1,9 +1,12 @@
 #!/bin/sh
 # Shows on a small crate that the check refuses two misuses of a recording: adding to one that is finished, which is a
 # move error and so cannot be a must-fail edit, and letting a started one go. The same text without them is proved.
-# It works on copies in a temporary folder.
+#
+# The crate is checked over the libraries that `rt ci` proved just before and left in crates/*/out. Where they are not
+# there, `rt lib` builds them.
 set -eu
 cd "$(dirname "$0")/.."
+kit=$(dirname "$(rt doc)")
 
 deps_of() { sed -n "s/^$1:\([^#]*\).*/\1/p" crates.txt; }
 
@@ -17,19 +20,14 @@ while [ -n "$todo" ]; do
     done
     todo=$(echo $next)
 done
+for crate in $needed; do
+    [ -d "crates/$crate/out/rlib/$crate.rlib" ] || { (cd crates/recorder && rt lib) >/dev/null; break; }
+done
 
 room=$(mktemp -d)
 trap 'rm -rf "$room"' EXIT
 trap 'exit 1' HUP INT TERM
-mkdir -p "$room/crates/misuse/src"
-for crate in $needed; do
-    mkdir "$room/crates/$crate"
-    for part in src specs proofs; do
-        if [ -d "crates/$crate/$part" ]; then cp -R "crates/$crate/$part" "$room/crates/$crate/"; fi
-    done
-    echo "$crate:$(deps_of "$crate")" >>"$room/crates.txt"
-done
-echo 'misuse: recorder samples' >>"$room/crates.txt"
+mkdir "$room/src"
 
 cat >"$room/finished" <<'END'
 // A recording of one sample.
@@ -62,10 +60,15 @@ sed 's,// finished,let _ = recording.put(bytes\, sample);,' "$room/finished" >"$
 sed 's,finish(recording\, bytes);,bytes.len();,' "$room/finished" >"$room/dropped"
 
 # checks the text; its status is that of the check, and what it says stands in the file 'said'
-checked() { # TEXT
-    cp "$room/$1" "$room/crates/misuse/src/lib.rt"
-    (cd "$room/crates/misuse" && rt check) >"$room/said" 2>&1
-}
+checked() ( # TEXT
+    cp "$room/$1" "$room/src/lib.rt"
+    set -- --crate-name misuse src/lib.rt --extern "std=$kit/rlibs/std.rlib" -L "dependency=$kit/rlibs"
+    for crate in recorder samples; do set -- "$@" --extern "$crate=$PWD/crates/$crate/out/rlib/$crate.rlib"; done
+    for crate in $needed; do set -- "$@" -L "dependency=$PWD/crates/$crate/out/rlib"; done
+    set -- "$@" --antt-project "$kit/rattle/logic/antt-project.json" --logic-built "$kit/logic_built" --jobs 1
+    cd "$room"
+    "$kit/bin/rattle" check "$@" >"$room/said" 2>&1
+)
 
 fail() {
     echo "misuse: $1" >&2
