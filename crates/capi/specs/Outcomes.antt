@@ -1,4 +1,4 @@
--- What is heard of a source: how many of its items come to a call that wants n, and its ending, if that is met.
+-- What a call hands out of a source: how many of its items come to one that wants n, and its ending, if that is met.
 use Rattle.std.specs.Prelude.{ℕ, ◌-◌, ◌^◌, cond, List, Ok, Err, Result, ◌==◌}
 use Rattle.sources.specs.Streams.{Stream}
 use Rattle.recordings.specs.declared.refusal.OpeningRefusal.{OpeningRefusal}

@@ -1,4 +1,4 @@
--- What number a word spells: decimal digits, with a sign in front where one likes.
+-- What number a word spells: decimal digits, with an optional sign.
 use Rattle.std.specs.Prelude.{ℕ, ◌+◌, ◌^◌, List, length, Bool, ◌&&◌, cond, ℤ, Option, Some, None, nat_lt, true, false, codes}
 use Rattle.std.specs.Str.{all_ascii_digits, bytes_eq}
 use Rattle.text.specs.declared.number.Switch.{Switch}

@@ -1,4 +1,4 @@
-// Numbers as they stand in a line: decimal digits, with a sign where one likes.
+// Numbers as they stand in a line: decimal digits, with an optional sign.
 ghost use Rattle.std.specs.Prelude.{◌≡◌, ℕ, List, Option, Result};
 ghost use Rattle.std.specs.Result.{result_ok};
 ghost use Rattle.text.specs.Numbers.{unsigned, signed, switch, u8_range, u16_range, u32_range, i16_range, i64_range, switch_range};

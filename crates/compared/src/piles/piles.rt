@@ -105,8 +105,8 @@ fn received<S: Source<Item = ConverterSample> + Drop, G: Source<Item = GainIndex
     signal: S,
     indices: G,
 ) -> anyhow::Result<Gained<Noisy<OnAir<S>>, G>> {
-    let heard = noisy(on_air(signal)?, ranged::seeds(1, 12345)?, 100);
-    gained(heard, indices)
+    let on_air = noisy(on_air(signal)?, ranged::seeds(1, 12345)?, 100);
+    gained(on_air, indices)
 }
 
 fn converted<S: Source<Item = AirSample>>(air: S) -> Converted<S> {
@@ -134,143 +134,156 @@ fn turned<S: Source<Item = WorkingSample> + Drop>(
     Ok(Scan::new(Rotator::new(FrequencyOffset { f: TURN }), clocked))
 }
 
-impl Piles<'_> {
-    // Two multipaths around a clock offset.
-    pub(crate) fn multipaths_around_clock(
-        &mut self,
-        name: &str,
-        signal: Take,
-        c: i64,
-    ) -> anyhow::Result<()> {
-        let bytes = signal_bytes(self.heap(), signal)?;
-        let scaled = Each::new(Scaling { factor: 2048 }, open_signal(bytes.as_slice())?);
-        let lower = Scan::new(Multipath::new(ranged::paths(&LOWER)?), scaled);
-        let clocked = Clock::new(false, ranged::clock_offset(c)?, lower);
-        let upper = Scan::new(Multipath::new(ranged::paths(&UPPER)?), clocked);
-        self.compare(name, upper)
-    }
+// Two multipaths around a clock offset.
+pub(crate) fn multipaths_around_clock(
+    piles: &mut Piles<'_>,
+    name: &str,
+    signal: Take,
+    c: i64,
+) -> anyhow::Result<()> {
+    let bytes = signal_bytes(piles.heap(), signal)?;
+    let scaled = Each::new(Scaling { factor: 2048 }, open_signal(bytes.as_slice())?);
+    let lower = Scan::new(Multipath::new(ranged::paths(&LOWER)?), scaled);
+    let clocked = Clock::new(false, ranged::clock_offset(c)?, lower);
+    let upper = Scan::new(Multipath::new(ranged::paths(&UPPER)?), clocked);
+    piles.compare(name, upper)
+}
 
-    // A lead below a clock offset.
-    pub(crate) fn lead_below_clock(
-        &mut self,
-        name: &str,
-        signal: Take,
-        c: i64,
-    ) -> anyhow::Result<()> {
-        let bytes = signal_bytes(self.heap(), signal)?;
-        let scaled = Each::new(Scaling { factor: 4096 }, open_signal(bytes.as_slice())?);
-        let first = WorkingSample {
-            re: 1234,
-            im: -4321,
-        };
-        let lead = Lead::new(5, first, scaled);
-        self.compare(name, Clock::new(false, ranged::clock_offset(c)?, lead))
-    }
+// A lead below a clock offset.
+pub(crate) fn lead_below_clock(
+    piles: &mut Piles<'_>,
+    name: &str,
+    signal: Take,
+    c: i64,
+) -> anyhow::Result<()> {
+    let bytes = signal_bytes(piles.heap(), signal)?;
+    let scaled = Each::new(Scaling { factor: 4096 }, open_signal(bytes.as_slice())?);
+    let first = WorkingSample {
+        re: 1234,
+        im: -4321,
+    };
+    let lead = Lead::new(5, first, scaled);
+    piles.compare(name, Clock::new(false, ranged::clock_offset(c)?, lead))
+}
 
-    // A clock offset over another.
-    pub(crate) fn clock_over_clock(
-        &mut self,
-        name: &str,
-        signal: Take,
-        lower: i64,
-        upper: i64,
-    ) -> anyhow::Result<()> {
-        let bytes = signal_bytes(self.heap(), signal)?;
-        let scaled = Each::new(Scaling { factor: 4096 }, open_signal(bytes.as_slice())?);
-        let once = Clock::new(false, ranged::clock_offset(lower)?, scaled);
-        self.compare(name, Clock::new(false, ranged::clock_offset(upper)?, once))
-    }
+// A clock offset over another.
+pub(crate) fn clock_over_clock(
+    piles: &mut Piles<'_>,
+    name: &str,
+    signal: Take,
+    lower: i64,
+    upper: i64,
+) -> anyhow::Result<()> {
+    let bytes = signal_bytes(piles.heap(), signal)?;
+    let scaled = Each::new(Scaling { factor: 4096 }, open_signal(bytes.as_slice())?);
+    let once = Clock::new(false, ranged::clock_offset(lower)?, scaled);
+    piles.compare(name, Clock::new(false, ranged::clock_offset(upper)?, once))
+}
 
-    // An amplifier over a frequency offset of a 256th of a turn a sample: every magnitude and every phase.
-    pub(crate) fn amplified(&mut self, name: &str, signal: Take) -> anyhow::Result<()> {
-        let bytes = signal_bytes(self.heap(), signal)?;
-        let scaled = Each::new(Scaling { factor: 4096 }, open_signal(bytes.as_slice())?);
-        let turning = Scan::new(Rotator::new(FrequencyOffset { f: 1 << 40 }), scaled);
-        let amplifier = Amplifier::new(ranged::amplifier_table()?, false);
-        self.compare(name, Each::new(amplifier, turning))
-    }
+// An amplifier over a frequency offset of a 256th of a turn a sample: every magnitude and every phase.
+pub(crate) fn amplified(piles: &mut Piles<'_>, name: &str, signal: Take) -> anyhow::Result<()> {
+    let bytes = signal_bytes(piles.heap(), signal)?;
+    let scaled = Each::new(Scaling { factor: 4096 }, open_signal(bytes.as_slice())?);
+    let turning = Scan::new(Rotator::new(FrequencyOffset { f: 1 << 40 }), scaled);
+    let amplifier = Amplifier::new(ranged::amplifier_table()?, false);
+    piles.compare(name, Each::new(amplifier, turning))
+}
 
-    // A frequency offset over another, of half a turn a sample.
-    pub(crate) fn turned_twice(&mut self, name: &str, signal: Take) -> anyhow::Result<()> {
-        let bytes = signal_bytes(self.heap(), signal)?;
-        let scaled = Each::new(Scaling { factor: 4096 }, open_signal(bytes.as_slice())?);
-        let once = Scan::new(Rotator::new(FrequencyOffset { f: -(1 << 47) }), scaled);
-        self.compare(
-            name,
-            Scan::new(Rotator::new(FrequencyOffset { f: 675_539_944_106 }), once),
-        )
-    }
+// A frequency offset over another, of half a turn a sample.
+pub(crate) fn turned_twice(piles: &mut Piles<'_>, name: &str, signal: Take) -> anyhow::Result<()> {
+    let bytes = signal_bytes(piles.heap(), signal)?;
+    let scaled = Each::new(Scaling { factor: 4096 }, open_signal(bytes.as_slice())?);
+    let once = Scan::new(Rotator::new(FrequencyOffset { f: -(1 << 47) }), scaled);
+    piles.compare(
+        name,
+        Scan::new(Rotator::new(FrequencyOffset { f: 675_539_944_106 }), once),
+    )
+}
 
-    // A lead over another.
-    pub(crate) fn lead_twice(&mut self, name: &str, signal: Take) -> anyhow::Result<()> {
-        let bytes = signal_bytes(self.heap(), signal)?;
-        let scaled = Each::new(Scaling { factor: 256 }, open_signal(bytes.as_slice())?);
-        let lower = Lead::new(2, WorkingSample { re: 1, im: 2 }, scaled);
-        self.compare(name, Lead::new(3, WorkingSample { re: 3, im: 4 }, lower))
-    }
+// A lead over another.
+pub(crate) fn lead_twice(piles: &mut Piles<'_>, name: &str, signal: Take) -> anyhow::Result<()> {
+    let bytes = signal_bytes(piles.heap(), signal)?;
+    let scaled = Each::new(Scaling { factor: 256 }, open_signal(bytes.as_slice())?);
+    let lower = Lead::new(2, WorkingSample { re: 1, im: 2 }, scaled);
+    piles.compare(name, Lead::new(3, WorkingSample { re: 3, im: 4 }, lower))
+}
 
-    // A frequency offset over a clock offset over a lead over a held item.
-    pub(crate) fn turned_held(&mut self, name: &str, times: u32, c: i64) -> anyhow::Result<()> {
-        let item = WorkingSample {
-            re: 20000,
-            im: -30000,
-        };
-        self.compare(name, turned(Held::new(item, times), c)?)
-    }
+// A frequency offset over a clock offset over a lead over a held item.
+pub(crate) fn turned_held(
+    piles: &mut Piles<'_>,
+    name: &str,
+    times: u32,
+    c: i64,
+) -> anyhow::Result<()> {
+    let item = WorkingSample {
+        re: 20000,
+        im: -30000,
+    };
+    piles.compare(name, turned(Held::new(item, times), c)?)
+}
 
-    // The same over a signal.
-    pub(crate) fn turned_signal(&mut self, name: &str, signal: Take, c: i64) -> anyhow::Result<()> {
-        let bytes = signal_bytes(self.heap(), signal)?;
-        let scaled = Each::new(Scaling { factor: 3000 }, open_signal(bytes.as_slice())?);
-        self.compare(name, turned(scaled, c)?)
-    }
+// The same over a signal.
+pub(crate) fn turned_signal(
+    piles: &mut Piles<'_>,
+    name: &str,
+    signal: Take,
+    c: i64,
+) -> anyhow::Result<()> {
+    let bytes = signal_bytes(piles.heap(), signal)?;
+    let scaled = Each::new(Scaling { factor: 3000 }, open_signal(bytes.as_slice())?);
+    piles.compare(name, turned(scaled, c)?)
+}
 
-    // Noise added twice, so many items each: the first source of a pairing is a pairing.
-    pub(crate) fn noise_twice(
-        &mut self,
-        name: &str,
-        signal: Take,
-        inner: u32,
-        outer: u32,
-    ) -> anyhow::Result<()> {
-        let bytes = signal_bytes(self.heap(), signal)?;
-        let air = on_air(open_signal(bytes.as_slice())?)?;
-        let once = noisy(air, ranged::seeds(7, 8)?, inner);
-        self.compare(name, noisy(once, ranged::seeds(1, 12345)?, outer))
-    }
+// Noise added twice, so many items each: the first source of a pairing is a pairing.
+pub(crate) fn noise_twice(
+    piles: &mut Piles<'_>,
+    name: &str,
+    signal: Take,
+    inner: u32,
+    outer: u32,
+) -> anyhow::Result<()> {
+    let bytes = signal_bytes(piles.heap(), signal)?;
+    let air = on_air(open_signal(bytes.as_slice())?)?;
+    let once = noisy(air, ranged::seeds(7, 8)?, inner);
+    piles.compare(name, noisy(once, ranged::seeds(1, 12345)?, outer))
+}
 
-    // A gain from air to air over the gain of the path, which clips the loudest samples.
-    pub(crate) fn gained_twice(&mut self, name: &str, signal: Take) -> anyhow::Result<()> {
-        let bytes = signal_bytes(self.heap(), signal)?;
-        let scaled = Each::new(Scaling { factor: 4096 }, open_signal(bytes.as_slice())?);
-        let on_air = Each::new(
-            FixedGain::<WorkingSample>::new(ranged::gain(17, 200)?),
-            scaled,
-        );
-        let gain = FixedGain::<AirSample>::new(ranged::gain(-3, 201)?);
-        self.compare(name, Each::new(gain, on_air))
-    }
+// A gain from air to air over the gain of the path, which clips the loudest samples.
+pub(crate) fn gained_twice(piles: &mut Piles<'_>, name: &str, signal: Take) -> anyhow::Result<()> {
+    let bytes = signal_bytes(piles.heap(), signal)?;
+    let scaled = Each::new(Scaling { factor: 4096 }, open_signal(bytes.as_slice())?);
+    let on_air = Each::new(
+        FixedGain::<WorkingSample>::new(ranged::gain(17, 200)?),
+        scaled,
+    );
+    let gain = FixedGain::<AirSample>::new(ranged::gain(-3, 201)?);
+    piles.compare(name, Each::new(gain, on_air))
+}
 
-    // A receiver up to its gain, over a signal on the air with noise and its gain indices.
-    pub(crate) fn receive_gain(
-        &mut self,
-        name: &str,
-        signal: Take,
-        gains: Take,
-    ) -> anyhow::Result<()> {
-        let signal_bytes = signal_bytes(self.heap(), signal)?;
-        let gain_bytes = gain_bytes(self.heap(), gains)?;
-        let signal = open_signal(signal_bytes.as_slice())?;
-        let indices = open_gains(gain_bytes.as_slice())?;
-        self.compare(name, received(signal, indices)?)
-    }
+// A receiver up to its gain, over a signal on the air with noise and its gain indices.
+pub(crate) fn receive_gain(
+    piles: &mut Piles<'_>,
+    name: &str,
+    signal: Take,
+    gains: Take,
+) -> anyhow::Result<()> {
+    let signal_bytes = signal_bytes(piles.heap(), signal)?;
+    let gain_bytes = gain_bytes(piles.heap(), gains)?;
+    let signal = open_signal(signal_bytes.as_slice())?;
+    let indices = open_gains(gain_bytes.as_slice())?;
+    piles.compare(name, received(signal, indices)?)
+}
 
-    // The same up to its converter.
-    pub(crate) fn receiver(&mut self, name: &str, signal: Take, gains: Take) -> anyhow::Result<()> {
-        let signal_bytes = signal_bytes(self.heap(), signal)?;
-        let gain_bytes = gain_bytes(self.heap(), gains)?;
-        let signal = open_signal(signal_bytes.as_slice())?;
-        let indices = open_gains(gain_bytes.as_slice())?;
-        self.compare(name, converted(received(signal, indices)?))
-    }
+// The same up to its converter.
+pub(crate) fn receiver(
+    piles: &mut Piles<'_>,
+    name: &str,
+    signal: Take,
+    gains: Take,
+) -> anyhow::Result<()> {
+    let signal_bytes = signal_bytes(piles.heap(), signal)?;
+    let gain_bytes = gain_bytes(piles.heap(), gains)?;
+    let signal = open_signal(signal_bytes.as_slice())?;
+    let indices = open_gains(gain_bytes.as_slice())?;
+    piles.compare(name, converted(received(signal, indices)?))
 }
