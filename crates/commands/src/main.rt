@@ -8,8 +8,7 @@
 mod watched;
 
 use comparison::table::is_entry;
-use program::failure::Failure;
-use program::report::{Outcome, status};
+use program::report::{print, status};
 use program::run::run;
 use std::alloc::{AllocError, Global};
 use std::{fs, io};
@@ -32,35 +31,12 @@ fn words_of(heap: Global, line: &str) -> Result<Vec<String>, AllocError> {
     Ok(words)
 }
 
-// An answer and a failure go where the program prints them; here both are printed, the failure behind its mark.
-fn print_failure(rt: &HostRuntime, failure: &Failure<'_>) -> io::Result<()> {
-    let line = failure.line(rt.alloc())?;
-    if failure.is_answer() {
-        println!(rt; "{line}")
-    } else {
-        println!(rt; "errors: {line}")
-    }
-}
-
-fn print(rt: &HostRuntime, outcome: &Outcome<'_>) -> io::Result<()> {
-    match outcome {
-        Ok(report) => {
-            println!(rt; "{report}")?;
-            match report.failure() {
-                Some(failure) => print_failure(rt, &failure),
-                None => Ok(()),
-            }
-        }
-        Err(failure) => print_failure(rt, failure),
-    }
-}
-
 fn carry_out(rt: &HostRuntime, line: &str) -> io::Result<()> {
     println!(rt; "> tigwedan {line}")?;
     let words = words_of(rt.alloc(), line)?;
     let mut host = Watched::new(rt);
     let outcome = run(rt.alloc(), &mut host, words.as_slice());
-    print(rt, &outcome)?;
+    print(rt.alloc(), &host, &outcome)?;
     let status = status(&outcome);
     println!(rt; "status {status}")?;
     host.print_written()?;

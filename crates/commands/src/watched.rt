@@ -3,8 +3,8 @@ ghost use Rattle.std.specs.Prelude.{None, ⊤};
 
 use program::host::{Disk, Host};
 use sha2::{Digest, Sha256};
-use std::io;
 use std::time::Duration;
+use std::{fmt, io};
 
 #[derive(Drop)]
 pub struct Watched<'a> {
@@ -34,6 +34,8 @@ impl<'a> Watched<'a> {
 
 impl<'a> Host for Watched<'a> {
     ghost written = { λ _. None };
+
+    ghost may_read = { λ _ _ _. ⊤ };
 
     ghost may_say_same = { λ _ _ _ _. ⊤ };
 
@@ -69,5 +71,14 @@ impl<'a> Host for Watched<'a> {
 
     fn report_progress(&self, samples: u64, files: u32) -> io::Result<()> {
         println!(self.rt; "{samples} samples so far, in {files} files")
+    }
+
+    fn print<T: fmt::Display>(&self, text: &T) -> io::Result<()> {
+        println!(self.rt; "{text}")
+    }
+
+    // What goes to the errors stands behind a mark here.
+    fn complain(&self, line: &str) -> io::Result<()> {
+        println!(self.rt; "errors: {line}")
     }
 }

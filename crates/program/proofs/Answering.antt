@@ -1,5 +1,5 @@
 -- Recordings that open.
-use Rattle.std.proofs.Common.{◌≡◌, ℕ, min, List, Ok, Err, OnOk, Option, Result, string_bytes, sym, ap, ◌∙◌, subst}
+use Rattle.std.proofs.Common.{◌≡◌, ℕ, min, List, Ok, Err, IfOk, OnOk, Option, Result, string_bytes, sym, ap, ◌∙◌, subst}
 use Rattle.samples.specs.declared.kinds.ConverterSample.{ConverterSample}
 use Rattle.samples.specs.declared.gain_index.GainIndex.{GainIndex}
 use Rattle.chain.specs.Chains.{played}
@@ -32,21 +32,22 @@ taken s (Err e) sides h = cc
 
 -- what was written of a recording that opened
 pub copies : {E : Type 0} (opening : Result (Opened ConverterSample) E) (o : Opened ConverterSample) (to : List ℕ) (before after : Option (List File)) (answer : Copied)
-    → opening ≡ Ok o → answer.rate ≡ o.rate → answer.written ≡ written_of o.whole → Adds (files_of to answer.rate o.whole.items) before after
+    → opening ≡ Ok o → answer.to.now ≡ to → answer.rate ≡ o.rate → answer.written ≡ written_of o.whole → Adds (files_of to answer.rate o.whole.items) before after
     → string_bytes answer.last ≡ numbered to answer.written.files → Copies opening to before after answer
-copies opening o to before after answer opens rate written files last =
+copies opening o to before after answer opens named rate written files last =
     subst (λ (x : Result (Opened ConverterSample) _). Copies x to before after answer) (sym opens)
-    (record { rate = rate; written = written; files = subst (λ (r : ℕ). Adds (files_of to r o.whole.items) before after) rate files; last = last })
+    (record { named = named; rate = rate; written = written; files = subst (λ (r : ℕ). Adds (files_of to r o.whole.items) before after) rate files; last = last })
 
 -- what was written of a chain over recordings that opened
 pub plays : {E : Type 0} (s : Settings) (link : Result (Opened ConverterSample × Opened GainIndex) E) (both : Opened ConverterSample × Opened GainIndex)
     (sides : Sides) (to : List ℕ) (before after : Option (List File)) (answer : Played)
-    → link ≡ Ok both → sides_answer s link ≡ Ok sides → answer.rate ≡ both.0.rate
+    → link ≡ Ok both → sides_answer s link ≡ Ok sides → answer.to.now ≡ to → answer.rate ≡ both.0.rate
     → answer.written ≡ written_of (played s both.0.whole both.1.whole) → Adds (files_of to answer.rate (played s both.0.whole both.1.whole).items) before after
     → string_bytes answer.last ≡ numbered to answer.written.files → answer.first_ended ≡ first_ended answer.written.ending sides → Plays s link to before after answer
-plays s link both sides to before after answer opens known rate written files last first =
+plays s link both sides to before after answer opens known named rate written files last first =
     subst (λ (x : Result (Opened ConverterSample × Opened GainIndex) _). Plays s x to before after answer) (sym opens)
     (record {
+      named = named;
       rate = rate;
       written = written;
       files = subst (λ (r : ℕ). Adds (files_of to r (played s both.0.whole both.1.whole).items) before after) rate files;
@@ -58,3 +59,8 @@ plays s link both sides to before after answer opens known rate written files la
 pub of_any : {A E P : Type 0} (r : Result A E) → P → OnOk r P
 of_any (Ok x) p = p
 of_any (Err e) p = tt
+
+-- what follows from what holds of an answer holds of it
+pub if_ok : {A E : Type 0} (P Q : A → Type 0) (r : Result A E) → ((x : A) → P x → Q x) → IfOk r P → IfOk r Q
+if_ok P Q (Ok x) k p = k x p
+if_ok P Q (Err e) k p = tt

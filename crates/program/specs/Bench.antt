@@ -1,4 +1,4 @@
--- What is reported of a run that was timed, but for its time.
+-- What is reported of a run that was timed, but for its time and how often it was made.
 use Rattle.std.specs.Prelude.{◌≡◌, ℕ, ◌+◌, ◌-◌, ◌*◌, ◌%◌, ◌^◌, List, ℤ, fold, length, min}
 use Rattle.std.specs.Int.{cast_unsigned, w16}
 use Rattle.samples.specs.declared.kinds.ConverterSample.{ConverterSample}

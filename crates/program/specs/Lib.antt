@@ -4,10 +4,13 @@ pub mod Blocks
 pub mod Comparing
 pub mod Contents
 pub mod Files
+pub mod Inputs
 pub mod Levels
 pub mod Names
 pub mod Outcomes
 pub mod Refusals
+pub mod Reports
+pub mod Runs
 pub mod Sides
 pub mod Statuses
 pub mod Words

@@ -1,5 +1,5 @@
 -- What is reported of a signal that was written.
-use Rattle.std.specs.Prelude.{◌≡◌, ℕ, length, List, Option, Result, Ok, Err, string_bytes}
+use Rattle.std.specs.Prelude.{◌≡◌, ℕ, Bool, length, List, Option, Result, Ok, Err, string_bytes}
 use Rattle.samples.specs.declared.kinds.ConverterSample.{ConverterSample}
 use Rattle.samples.specs.declared.gain_index.GainIndex.{GainIndex}
 use Rattle.sources.specs.Streams.{Stream}
@@ -9,8 +9,9 @@ use Rattle.player.specs.Plain.{ending_answer}
 use Rattle.recordings.specs.Opening.{Opened}
 use Rattle.program.specs.Files.{Adds, File, counted_files, files_for, files_of}
 use Rattle.program.specs.Levels.{levels_of}
-use Rattle.program.specs.Names.{numbered}
+use Rattle.program.specs.Names.{Clears, Spares, SparesAll, numbered}
 use Rattle.program.specs.Sides.{first_ended, sides_of}
+use Rattle.program.specs.declared.inputs.Inputs.{Inputs}
 use Rattle.program.specs.declared.copy.Copied.{Copied}
 use Rattle.program.specs.declared.play.Played.{Played}
 use Rattle.program.specs.declared.written.Written.{Written}
@@ -27,6 +28,7 @@ written_of w = record {
 -- This came of the chain over both recordings, and these files were written.
 pub record PlaysBoth (s : Settings) (signal : Opened ConverterSample) (gain : Opened GainIndex) (to : List ℕ)
     (before after : Option (List File)) (answer : Played) : Type 0 where
+  pub named : answer.to.now ≡ to
   pub rate : answer.rate ≡ signal.rate
   pub written : answer.written ≡ written_of (played s signal.whole gain.whole)
   pub files : Adds (files_of to signal.rate (played s signal.whole gain.whole).items) before after
@@ -47,6 +49,7 @@ files_taken s (Err e) = 0
 -- This came of a recording that was copied, and these files were written.
 pub record CopiesAll (recording : Opened ConverterSample) (to : List ℕ)
     (before after : Option (List File)) (answer : Copied) : Type 0 where
+  pub named : answer.to.now ≡ to
   pub rate : answer.rate ≡ recording.rate
   pub written : answer.written ≡ written_of recording.whole
   pub files : Adds (files_of to recording.rate recording.whole.items) before after
@@ -60,3 +63,17 @@ Copies (Err e) to before after answer = ⊥
 abbrev pub copied_files : {E : Type 0} → Result (Opened ConverterSample) E → ℕ
 copied_files (Ok recording) = counted_files (length recording.whole.items)
 copied_files (Err e) = 0
+
+-- This came of it, and the host reported of none of the files that it is an input, or something else than a recording.
+abbrev pub PlaysSparing : {E : Type 0} → (List ℕ → List ℕ → Bool → Type 0) → (List ℕ → Bool → Type 0) → Inputs → List ℕ
+    → Option (List File) → Option (List File) → Played → Settings → Result (Opened ConverterSample × Opened GainIndex) E
+    → Type 0
+PlaysSparing same other inputs to before after answer s both =
+    Plays s both to before after answer × SparesAll same other inputs to (files_taken s both)
+
+abbrev pub CopiesSparing : {E : Type 0} → (List ℕ → List ℕ → Bool → Type 0) → (List ℕ → Bool → Type 0) → List ℕ
+    → Result (Opened ConverterSample) E → List ℕ → Option (List File) → Option (List File) → Copied → Type 0
+CopiesSparing same other from opening to before after answer =
+    Copies opening to before after answer
+    × Spares same from to (copied_files opening)
+    × Clears other to (copied_files opening)

@@ -1,6 +1,7 @@
 // Playing a chain over and over, and how long an item takes.
-ghost use Rattle.std.specs.Prelude.{◌≡◌, ◌<◌, length, IfOk};
+ghost use Rattle.std.specs.Prelude.{◌≡◌, ◌<◌, length, max, IfOk, IfErr, None};
 ghost use Rattle.program.specs.Bench.{TimedOf, sum_from, with_part};
+ghost use Rattle.program.specs.Refusals.{refusal_in};
 
 use crate::block::{Block, ChainEnding, copies, next_block};
 use crate::failure::Failure;
@@ -16,9 +17,12 @@ use std::time::Duration;
 // How many items a fill wants.
 const BLOCK: usize = 4096;
 
-/// What was timed: how many items a run has, a sum over them, the time that its fills took, and how the chain ends.
+/// What was timed: how many runs were made, how many items a run has, a sum over them, the time that its fills took, and
+/// how the chain ends.
 #[derive(Clone, Copy, Debug)]
 pub struct Timed {
+    /// How many runs were made, at least 1.
+    pub runs: u32,
     /// How many samples a run has, up to 2^64 - 1.
     pub items: u64,
     /// The sum over all their parts, modulo 2^64.
@@ -54,6 +58,7 @@ fn play_once<S: Source<Item = ConverterSample>, H: Host>(
 ) -> io::Result<Timed>
     requires { 0 < length block.old }
     ensures timed { IfOk result (TimedOf player.old.whole) }
+    ensures run { IfOk result (λ timed. timed.runs ≡ 1) }
     ensures whole { player.new.whole ≡ player.old.whole }
 {
     let mut items = 0u64;
@@ -66,6 +71,7 @@ fn play_once<S: Source<Item = ConverterSample>, H: Host>(
         time = time.saturating_add(host.time()?.saturating_sub(start));
         if let Some(ending) = ending {
             return Ok(Timed {
+                runs: 1,
                 items,
                 sum,
                 time,
@@ -85,7 +91,9 @@ fn play_often<'a, S: Source<Item = ConverterSample>, H: Host>(
     runs: u32,
 ) -> Result<Timed, Failure<'a>>
     requires { 0 < length block.old }
-    ensures { IfOk result (TimedOf player.old.whole) }
+    ensures timed { IfOk result (TimedOf player.old.whole) }
+    ensures runs { IfOk result (λ timed. timed.runs ≡ max 1 runs) }
+    ensures opened { IfErr result (λ e. refusal_in e ≡ None) }
 {
     let mut best = play_once(host, player, block)?;
     for number in 1..runs {
@@ -94,6 +102,7 @@ fn play_often<'a, S: Source<Item = ConverterSample>, H: Host>(
             return Err(Failure::RunsDiffer(number));
         }
         best.time = best.time.min(run.time);
+        best.runs += 1;
     }
     Ok(best)
 }
@@ -105,7 +114,9 @@ pub fn time<'a, S: Source<Item = ConverterSample> + Drop, H: Host>(
     source: S,
     runs: u32,
 ) -> Result<Timed, Failure<'a>>
-    ensures { IfOk result (TimedOf (S.whole source)) }
+    ensures timed { IfOk result (TimedOf (S.whole source)) }
+    ensures runs { IfOk result (λ timed. timed.runs ≡ max 1 runs) }
+    ensures opened { IfErr result (λ e. refusal_in e ≡ None) }
 {
     let mut block = copies(heap, ConverterSample::new(0, 0), BLOCK)?;
     let mut player = Player::new(source);

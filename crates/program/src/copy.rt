@@ -32,9 +32,9 @@ pub struct Copied<'a> {
 // How many files the copy takes. A recording has never more samples than are counted.
 fn count_files<'a>(from: &'a str, bytes: &[u8]) -> Result<u32, Failure<'a>>
     ensures answer { IfOk result (λ files. files ≡ copied_files (signal_opening 0 bytes.now)) }
-    ensures opens { OnOk result (refusal_of (signal_opening 0 bytes.now) ≡ None) }
+    ensures opens { OnOk result (refusal_of from.now (signal_opening 0 bytes.now) ≡ None) }
     ensures refuses { IfErr result (λ e. refusal_in e
-        ≡ refusal_of (signal_opening 0 bytes.now)) }
+        ≡ refusal_of from.now (signal_opening 0 bytes.now)) }
 {
     match check(bytes, Input::Signal) {
         Ok(contents) if contents.counted.items < u64::MAX => {
@@ -56,7 +56,7 @@ fn copy_all<'a, H: Host>(
     ensures copies { IfOk result (Copies (signal_opening 0 bytes.now) to.now
         (H.written host.old) (H.written host.new)) }
     ensures refuses { IfErr result (λ e. refusal_in e
-        ≡ refusal_of (signal_opening 0 bytes.now)) }
+        ≡ refusal_of from.now (signal_opening 0 bytes.now)) }
     ensures keeps { IfErr result (λ e. is_late e ≡ false
         → H.written host.new ≡ H.written host.old) }
 {
@@ -93,7 +93,7 @@ pub fn copy<'a, H: Host>(
     ensures clears { OnOk result (Clears (H.may_say_other host.old) to.now
         (copied_files (signal_opening 0 bytes.now))) }
     ensures refuses { IfErr result (λ e. refusal_in e
-        ≡ refusal_of (signal_opening 0 bytes.now)) }
+        ≡ refusal_of from.now (signal_opening 0 bytes.now)) }
     ensures keeps { IfErr result (λ e. is_late e ≡ false
         → H.written host.new ≡ H.written host.old) }
 {

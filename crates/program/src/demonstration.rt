@@ -9,7 +9,6 @@ use recordings::recording::Recording;
 use samples::gain_index::GainIndex;
 use samples::kinds::ConverterSample;
 use samples::sample::Sample;
-use sources::fault::AtItem;
 use sources::held::Held;
 use sources::source::Source;
 use std::alloc::{AllocError, Global};
@@ -47,7 +46,7 @@ fn show_samples<S: Source<Item = ConverterSample>>(
         let im = sample.im();
         writeln!(text, "  item {item}: ({re}, {im})")?;
     }
-    let ends = Ends(source.ending().map_err(AtItem));
+    let ends = Ends(source.ending());
     writeln!(text, "  {ends}")
 }
 
@@ -99,7 +98,7 @@ fn show_link<'a, S: Source<Item = ConverterSample> + Drop>(
 
 /// A recording of four samples that is written to memory and opened again, whole and damaged, and then played through a link,
 /// call by call.
-pub fn demonstrate<'a>(heap: Global) -> Result<String, Failure<'a>> {
+pub(crate) fn demonstrate<'a>(heap: Global) -> Result<String, Failure<'a>> {
     let mut text = String::new(heap);
     writeln!(
         text,

@@ -112,15 +112,23 @@ impl<'a, T: Drop> From<AllocFailed<T>> for Failure<'a> {
 }
 
 impl<'a> Failure<'a> {
+    ghost use Rattle.std.specs.Prelude.{◌≡◌, ℕ, List, IfOk, string_bytes};
+    ghost use Rattle.program.specs.Refusals.{is_answer};
+    ghost use Rattle.program.specs.Words.{shown};
+
     /// What is printed of it: one line, with an escape in place of each control character of a name or a quoted word.
-    pub fn line(&self, heap: Global) -> Result<String, AllocError> {
+    pub fn line(&self, heap: Global) -> Result<String, AllocError>
+        ensures { IfOk result (λ line. (text : List ℕ) × (string_bytes line ≡ shown text)) }
+    {
         let text = format!(in heap; "{self}")?;
         let shown = Shown(text.as_str());
         format!(in heap; "{shown}")
     }
 
     /// Whether it is an answer about a file, which goes to the standard output; any other goes to the error output.
-    pub fn is_answer(&self) -> bool {
+    pub fn is_answer(&self) -> bool
+        ensures { result ≡ is_answer self.now }
+    {
         matches!(
             self,
             Failure::Refused(..) | Failure::Settings(..) | Failure::Calls(..)

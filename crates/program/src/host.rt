@@ -1,5 +1,5 @@
-// Where a run reads and writes: the trait, and the machine's file system, clock and error output.
-ghost use Rattle.std.specs.Prelude.{ℕ, List, Bool, Option, OnOk, [], ◌∷◌, None, ⊤};
+// Where a run reads, writes and prints: the trait, and the machine's file system, clock and outputs.
+ghost use Rattle.std.specs.Prelude.{ℕ, List, Bool, Option, IfOk, OnOk, [], ◌∷◌, None, ⊤};
 ghost use Rattle.program.specs.Files.{Adds, File};
 
 use std::fs::Metadata;
@@ -7,12 +7,15 @@ use std::io::Read;
 use std::os::unix::fs::MetadataExt;
 use std::rt::{Clock, Files};
 use std::time::Duration;
-use std::{fs, io};
+use std::{fmt, fs, io};
 
-/// Where a run reads and writes: the file system, or what stands in for it.
+/// Where a run reads, writes and prints: the machine, or what stands in for it.
 pub trait Host {
     /// The files that were written, in order; `None` where no list of them is kept.
     ghost written: { Self → Option (List File) };
+
+    /// Which bytes may have been read under a name.
+    ghost may_read: { Self → List ℕ → List ℕ → Type 0 };
 
     /// What may be reported of whether an input and a name lead to one file.
     ghost may_say_same: { Self → List ℕ → List ℕ → Bool → Type 0 };
@@ -21,7 +24,8 @@ pub trait Host {
     ghost may_say_other: { Self → List ℕ → Bool → Type 0 };
 
     /// All bytes of the file.
-    fn read(&self, name: &str) -> io::Result<Vec<u8>>;
+    fn read(&self, name: &str) -> io::Result<Vec<u8>>
+        ensures { IfOk result (λ bytes. may_read self.now name.now bytes.items) };
 
     /// Writes the bytes as the file of this name; a file that is there is replaced.
     fn write(&mut self, name: &str, bytes: &[u8]) -> io::Result<()>
@@ -41,6 +45,12 @@ pub trait Host {
 
     /// Reports how far a long run has come.
     fn report_progress(&self, samples: u64, files: u32) -> io::Result<()>;
+
+    /// Prints what was asked for, to the output.
+    fn print<T: fmt::Display>(&self, text: &T) -> io::Result<()>;
+
+    /// Prints why a run stopped, to the error output.
+    fn complain(&self, line: &str) -> io::Result<()>;
 }
 
 // How a recording begins.
@@ -68,8 +78,10 @@ fn begins_otherwise<R: Files>(rt: &R, name: &str) -> io::Result<bool> {
     Ok(count > 0 && bytes != MARK)
 }
 
-impl<'a, R: Files + Eprint + Clock + AllocGlobal> Host for Disk<'a, R> {
+impl<'a, R: Files + Print + Eprint + Clock + AllocGlobal> Host for Disk<'a, R> {
     ghost written = { λ _. None };
+
+    ghost may_read = { λ _ _ _. ⊤ };
 
     ghost may_say_same = { λ _ _ _ _. ⊤ };
 
@@ -105,5 +117,13 @@ impl<'a, R: Files + Eprint + Clock + AllocGlobal> Host for Disk<'a, R> {
 
     fn report_progress(&self, samples: u64, files: u32) -> io::Result<()> {
         eprintln!(self.0; "{samples} samples so far, in {files} files")
+    }
+
+    fn print<T: fmt::Display>(&self, text: &T) -> io::Result<()> {
+        println!(self.0; "{text}")
+    }
+
+    fn complain(&self, line: &str) -> io::Result<()> {
+        eprintln!(self.0; "tigwedan: {line}")
     }
 }

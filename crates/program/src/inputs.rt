@@ -20,10 +20,13 @@ pub struct Inputs<'a> {
 
 impl<'a> Inputs<'a> {
     ghost use Rattle.std.specs.Prelude.{◌≡◌, Some, false};
+    ghost use Rattle.program.specs.Inputs.{file_numbered, file_of};
     ghost use Rattle.program.specs.Refusals.{is_late, refusal_in};
 
     /// The file of a recording.
-    pub fn file_of(&self, input: Input) -> &'a str {
+    pub fn file_of(&self, input: Input) -> &'a str
+        ensures { result.now ≡ file_of self.now input }
+    {
         match input {
             Input::Signal => self.signal,
             Input::Gain => self.gain,
@@ -32,7 +35,8 @@ impl<'a> Inputs<'a> {
 
     /// Why one of the recordings did not open.
     pub fn refused(&self, refusal: (Input, OpeningRefusal)) -> Failure<'a>
-        ensures refusal { refusal_in result ≡ Some refusal.1 }
+        ensures refusal { refusal_in result
+            ≡ Some (file_of self.now refusal.0, refusal.1) }
         ensures early { is_late result ≡ false }
     {
         let (input, refusal) = refusal;
@@ -40,7 +44,9 @@ impl<'a> Inputs<'a> {
     }
 
     /// The file of the recording with this input number, as a fault names it.
-    pub fn file_numbered(&self, number: u8) -> &'a str {
+    pub fn file_numbered(&self, number: u8) -> &'a str
+        ensures { result.now ≡ file_numbered self.now number }
+    {
         if number == Input::Signal.number() {
             self.signal
         } else {

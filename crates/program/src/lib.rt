@@ -2,8 +2,10 @@
 //
 // Proved: which words of the command line say which command, and why others say none; what each written file holds, byte
 // for byte, and under which name; that no file is written of which the host reported that it is an input, or something
-// else than a recording; what the summaries count; which status a run ends with; the sum over a timed run; and that the
-// block size makes no difference. What the host reads, and what is printed, no contract speaks of.
+// else than a recording; what the summaries count; which status a run ends with; how often a chain is timed, and the sum
+// over its samples; that the block size makes no difference; and that a run does what its words say, with the bytes that
+// its host may have read under the names of their files, and names the file that it refuses. The words of its reports and
+// refusals are proved too; those of other failures, the usage and the demonstration are not.
 #![tactic(auto)]
 
 pub mod arguments;
@@ -23,6 +25,4 @@ pub mod replay;
 pub mod report;
 pub mod run;
 pub mod sides;
-#[cfg(test)]
-mod tests;
 pub mod written;

@@ -75,9 +75,10 @@ fn sides_of<'a>(
 ) -> Result<Sides, Failure<'a>>
     ensures answer { IfOk result (λ sides.
         sides_answer settings.now (link_opening signal.now gain.now) ≡ Ok sides) }
-    ensures opens { OnOk result (refusal_of_link (link_opening signal.now gain.now) ≡ None) }
+    ensures opens { OnOk result (refusal_of_link inputs.now (link_opening signal.now gain.now)
+        ≡ None) }
     ensures refuses { IfErr result (λ e. refusal_in e
-        ≡ refusal_of_link (link_opening signal.now gain.now)) }
+        ≡ refusal_of_link inputs.now (link_opening signal.now gain.now)) }
 {
     match LinkRecordings::open(signal, gain) {
         Ok(
@@ -115,7 +116,7 @@ fn play_both<'a, H: Host>(
     ensures plays { IfOk result (Plays settings.now (link_opening signal.now gain.now) to.now
         (H.written host.old) (H.written host.new)) }
     ensures refuses { IfErr result (λ e. refusal_in e
-        ≡ refusal_of_link (link_opening signal.now gain.now)) }
+        ≡ refusal_of_link inputs.now (link_opening signal.now gain.now)) }
     ensures keeps { IfErr result (λ e. is_late e ≡ false
         → H.written host.new ≡ H.written host.old) }
 {
@@ -153,7 +154,7 @@ pub fn play<'a, H: Host>(
     ensures spares { OnOk result (SparesAll (H.may_say_same host.old) (H.may_say_other host.old)
         inputs.now to.now (files_taken settings.now (link_opening signal.now gain.now))) }
     ensures refuses { IfErr result (λ e. refusal_in e
-        ≡ refusal_of_link (link_opening signal.now gain.now)) }
+        ≡ refusal_of_link inputs.now (link_opening signal.now gain.now)) }
     ensures keeps { IfErr result (λ e. is_late e ≡ false
         → H.written host.new ≡ H.written host.old) }
 {

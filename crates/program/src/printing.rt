@@ -1,21 +1,48 @@
 // What the program prints of recordings and of words.
-ghost use Rattle.program.specs.Words.{then_text};
+ghost use Rattle.std.specs.Prelude.{Some};
+ghost use Rattle.std.specs.Fmt.{WritesOnOk};
+ghost use Rattle.std.specs.Char.Escape.{escape_default};
+ghost use Rattle.std.specs.Str.{encode_utf8_all};
+ghost use Rattle.program.specs.Arguments.{kind_word};
+ghost use Rattle.sources.specs.Faults.{at_item_text};
+ghost use Rattle.player.specs.Words.{player_fault_text};
+ghost use Rattle.program.specs.Words.{ending_text, files_text, refused_text, shown, shown_char};
 
+use crate::block::ChainEnding;
 use recordings::pair::Input;
 use recordings::refusal::OpeningRefusal;
+use sources::fault::{AtItem, Ending};
 use std::fmt;
 
-/// How something ends, in the words of a summary: `finished`, or `then` and what ended it.
+/// How a recording ends, in the words of a summary: `finished`, or `then` and the fault at its item.
 #[derive(Clone, Copy, Debug)]
-pub struct Ends<F>(pub Result<(), F>);
+pub struct Ends(pub Ending);
 
-impl<F: fmt::Display> fmt::Display for Ends<F> {
-    ghost output = { λ e. then_text F.output e.0 };
+impl fmt::Display for Ends {
+    ghost output = { λ ends. Some (ending_text at_item_text ends.0) };
 
     fn fmt<W: fmt::Write>(&self, f: &mut fmt::Formatter<W>) -> fmt::Result {
-        match &self.0 {
+        match self.0 {
             Ok(()) => write!(f, "finished"),
-            Err(fault) => write!(f, "then {fault}"),
+            Err(fault) => {
+                let fault = AtItem(fault);
+                write!(f, "then {fault}")
+            }
+        }
+    }
+}
+
+/// How a chain ends, in the words of a summary: `finished`, or `then` and the fault at the place where the player met it.
+#[derive(Clone, Copy, Debug)]
+pub struct ChainEnds(pub ChainEnding);
+
+impl fmt::Display for ChainEnds {
+    ghost output = { λ ends. Some (ending_text player_fault_text ends.0) };
+
+    fn fmt<W: fmt::Write>(&self, f: &mut fmt::Formatter<W>) -> fmt::Result {
+        match self.0 {
+            Ok(()) => write!(f, "finished"),
+            Err(met) => write!(f, "then {met}"),
         }
     }
 }
@@ -34,6 +61,8 @@ pub struct Files<'a> {
 }
 
 impl<'a> fmt::Display for Files<'a> {
+    ghost output = { λ all. Some (files_text all.to.now all.last.now all.rate all.files) };
+
     fn fmt<W: fmt::Write>(&self, f: &mut fmt::Formatter<W>) -> fmt::Result {
         let to = Shown(self.to);
         let last = Shown(self.last);
@@ -52,6 +81,8 @@ impl<'a> fmt::Display for Files<'a> {
 pub struct Refused(pub OpeningRefusal);
 
 impl fmt::Display for Refused {
+    ghost output = { λ refused. Some (refused_text refused.0) };
+
     fn fmt<W: fmt::Write>(&self, f: &mut fmt::Formatter<W>) -> fmt::Result {
         let number = self.0.number();
         let place = self.0.place();
@@ -65,6 +96,8 @@ impl fmt::Display for Refused {
 pub struct Kind(pub Input);
 
 impl fmt::Display for Kind {
+    ghost output = { λ kind. Some (kind_word kind.0) };
+
     fn fmt<W: fmt::Write>(&self, f: &mut fmt::Formatter<W>) -> fmt::Result {
         match self.0 {
             Input::Signal => write!(f, "signal"),
@@ -77,15 +110,32 @@ impl fmt::Display for Kind {
 #[derive(Clone, Copy, Debug)]
 pub struct Shown<'a>(pub &'a str);
 
+fn write_escape<W: fmt::Write>(f: &mut fmt::Formatter<W>, c: char) -> fmt::Result
+    ensures { WritesOnOk W.write_str_gives f.old result
+        (encode_utf8_all (escape_default c)) f.new }
+{
+    for part in c.escape_default() {
+        write!(f, "{part}")?;
+    }
+    Ok(())
+}
+
+fn write_shown<W: fmt::Write>(f: &mut fmt::Formatter<W>, c: char) -> fmt::Result
+    ensures { WritesOnOk W.write_str_gives f.old result (shown_char c) f.new }
+{
+    if c.is_control() {
+        write_escape(f, c)
+    } else {
+        write!(f, "{c}")
+    }
+}
+
 impl<'a> fmt::Display for Shown<'a> {
+    ghost output = { λ word. Some (shown word.0.now) };
+
     fn fmt<W: fmt::Write>(&self, f: &mut fmt::Formatter<W>) -> fmt::Result {
         for c in self.0.chars() {
-            if c.is_control() {
-                let escape = c.escape_default();
-                write!(f, "{escape}")?;
-            } else {
-                write!(f, "{c}")?;
-            }
+            write_shown(f, c)?;
         }
         Ok(())
     }

@@ -1,5 +1,7 @@
-// What a run reports, and its status.
+// What a run reports, where that is printed, and its status.
 ghost use Rattle.std.specs.Prelude.{◌≡◌, is_some, is_err};
+ghost use Rattle.std.specs.Fmt.{WritesOnOk};
+ghost use Rattle.program.specs.Reports.{checked_text, copied_text, first_ended_text, played_text, compared_text, timed_text, replayed_text, report_text, recording_ending};
 ghost use Rattle.program.specs.Statuses.{status_of};
 
 use crate::arguments::{USAGE, VERSION};
@@ -8,15 +10,17 @@ use crate::block::ChainEnding;
 use crate::check::Contents;
 use crate::copy::Copied;
 use crate::failure::Failure;
+use crate::host::Host;
 use crate::inputs::Inputs;
 use crate::play::Played;
-use crate::printing::{Ends, Files, Kind, Shown};
+use crate::printing::{ChainEnds, Ends, Files, Kind, Shown};
 use crate::replay::{Compared, Difference, SIZES};
 use player::calls::Answer;
 use recordings::pair::Input;
 use samples::kinds::ConverterSample;
-use sources::fault::AtItem;
-use std::fmt;
+use sources::fault::{AtItem, Ending};
+use std::alloc::Global;
+use std::{fmt, io};
 use text::numbered::Numbered;
 use text::transcript::answers::AnswerLines;
 use text::transcript::step::Step;
@@ -42,7 +46,39 @@ pub enum Report<'a> {
     Timed(Inputs<'a>, Timed),
 }
 
-fn fmt_copied<W: fmt::Write>(f: &mut fmt::Formatter<W>, copied: &Copied<'_>) -> fmt::Result {
+fn fmt_checked<W: fmt::Write>(
+    f: &mut fmt::Formatter<W>,
+    file: &str,
+    input: Input,
+    contents: &Contents,
+) -> fmt::Result
+    ensures { WritesOnOk W.write_str_gives f.old result
+        (checked_text file.now input contents.now) f.new }
+{
+    let file = Shown(file);
+    let kind = Kind(input);
+    let rate = contents.rate;
+    let items = contents.counted.items;
+    let ends = Ends(contents.counted.ending);
+    write!(
+        f,
+        "{file}: {kind} recording, rate {rate}, {items} samples, {ends}"
+    )
+}
+
+// How the recording ends that a chain was played from alone.
+fn recording_ending(ending: &ChainEnding) -> Ending
+    ensures { result ≡ recording_ending ending.now }
+{
+    match ending {
+        Ok(()) => Ok(()),
+        Err(met) => Err(met.fault),
+    }
+}
+
+fn fmt_copied<W: fmt::Write>(f: &mut fmt::Formatter<W>, copied: &Copied<'_>) -> fmt::Result
+    ensures { WritesOnOk W.write_str_gives f.old result (copied_text copied.now) f.new }
+{
     let files = Files {
         to: copied.to,
         last: copied.last.as_str(),
@@ -50,11 +86,14 @@ fn fmt_copied<W: fmt::Write>(f: &mut fmt::Formatter<W>, copied: &Copied<'_>) -> 
         files: copied.written.files,
     };
     let samples = copied.written.samples;
-    let ends = Ends(copied.written.ending.map_err(|met| AtItem(met.fault)));
-    write!(f, "{files}\ncopied {samples} samples, {ends}")
+    let ends = Ends(recording_ending(&copied.written.ending));
+    writeln!(f, "{files}")?;
+    write!(f, "copied {samples} samples, {ends}")
 }
 
-fn fmt_first_ended<W: fmt::Write>(f: &mut fmt::Formatter<W>, first: Option<Input>) -> fmt::Result {
+fn fmt_first_ended<W: fmt::Write>(f: &mut fmt::Formatter<W>, first: Option<Input>) -> fmt::Result
+    ensures { WritesOnOk W.write_str_gives f.old result (first_ended_text first) f.new }
+{
     match first {
         Some(Input::Signal) => {
             writeln!(
@@ -72,7 +111,9 @@ fn fmt_first_ended<W: fmt::Write>(f: &mut fmt::Formatter<W>, first: Option<Input
     }
 }
 
-fn fmt_played<W: fmt::Write>(f: &mut fmt::Formatter<W>, played: &Played<'_>) -> fmt::Result {
+fn fmt_played<W: fmt::Write>(f: &mut fmt::Formatter<W>, played: &Played<'_>) -> fmt::Result
+    ensures { WritesOnOk W.write_str_gives f.old result (played_text played.now) f.new }
+{
     let files = Files {
         to: played.to,
         last: played.last.as_str(),
@@ -82,7 +123,7 @@ fn fmt_played<W: fmt::Write>(f: &mut fmt::Formatter<W>, played: &Played<'_>) -> 
     let highest = played.written.levels.highest;
     let clipped = played.written.levels.clipped;
     let samples = played.written.samples;
-    let ends = Ends(played.written.ending);
+    let ends = ChainEnds(played.written.ending);
     writeln!(f, "{files}")?;
     writeln!(
         f,
@@ -92,7 +133,9 @@ fn fmt_played<W: fmt::Write>(f: &mut fmt::Formatter<W>, played: &Played<'_>) -> 
     write!(f, "played {samples} samples, {ends}")
 }
 
-fn fmt_compared<W: fmt::Write>(f: &mut fmt::Formatter<W>, compared: &Compared) -> fmt::Result {
+fn fmt_compared<W: fmt::Write>(f: &mut fmt::Formatter<W>, compared: &Compared) -> fmt::Result
+    ensures { WritesOnOk W.write_str_gives f.old result (compared_text compared.now) f.new }
+{
     let [first, second, third] = SIZES;
     let items = compared.items;
     match compared.difference {
@@ -110,7 +153,9 @@ fn fmt_compared<W: fmt::Write>(f: &mut fmt::Formatter<W>, compared: &Compared) -
 }
 
 // Tenths of a nanosecond are cut off, not rounded.
-fn fmt_timed<W: fmt::Write>(f: &mut fmt::Formatter<W>, timed: &Timed) -> fmt::Result {
+fn fmt_timed<W: fmt::Write>(f: &mut fmt::Formatter<W>, timed: &Timed) -> fmt::Result
+    ensures { WritesOnOk W.write_str_gives f.old result (timed_text timed.now) f.new }
+{
     let items = timed.items;
     let sum = timed.sum;
     let tenths = timed.time.as_nanos().saturating_mul(10) / u128::from(items.max(1));
@@ -122,7 +167,23 @@ fn fmt_timed<W: fmt::Write>(f: &mut fmt::Formatter<W>, timed: &Timed) -> fmt::Re
     )
 }
 
+fn fmt_replayed<W: fmt::Write>(
+    f: &mut fmt::Formatter<W>,
+    steps: &[Numbered<Step>],
+    answers: &[Answer<ConverterSample>],
+    compared: &Compared,
+) -> fmt::Result
+    ensures { WritesOnOk W.write_str_gives f.old result
+        (replayed_text steps.now answers.now compared.now) f.new }
+{
+    let lines = AnswerLines { steps, answers };
+    write!(f, "{lines}")?;
+    fmt_compared(f, compared)
+}
+
 impl<'a> fmt::Display for Report<'a> {
+    ghost output = { λ report. report_text report };
+
     fn fmt<W: fmt::Write>(&self, f: &mut fmt::Formatter<W>) -> fmt::Result {
         match self {
             Report::Usage => write!(f, "{USAGE}"),
@@ -131,26 +192,11 @@ impl<'a> fmt::Display for Report<'a> {
                 let shown = text.trim_end();
                 write!(f, "{USAGE}\n\n{shown}")
             }
-            Report::Checked(file, input, contents) => {
-                let file = Shown(*file);
-                let kind = Kind(*input);
-                let rate = contents.rate;
-                let items = contents.counted.items;
-                let ends = Ends(contents.counted.ending.map_err(AtItem));
-                write!(
-                    f,
-                    "{file}: {kind} recording, rate {rate}, {items} samples, {ends}"
-                )
-            }
+            Report::Checked(file, input, contents) => fmt_checked(f, *file, *input, contents),
             Report::Copied(_, copied) => fmt_copied(f, copied),
             Report::Played(_, played) => fmt_played(f, played),
             Report::Replayed(steps, answers, compared) => {
-                let lines = AnswerLines {
-                    steps: steps.as_slice(),
-                    answers: answers.as_slice(),
-                };
-                write!(f, "{lines}")?;
-                fmt_compared(f, compared)
+                fmt_replayed(f, steps.as_slice(), answers.as_slice(), compared)
             }
             Report::Timed(_, timed) => fmt_timed(f, timed),
         }
@@ -205,5 +251,30 @@ pub fn status(outcome: &Outcome<'_>) -> u8
     match outcome {
         Ok(report) => u8::from(report.failure().is_some()),
         Err(_) => 1,
+    }
+}
+
+// An answer about a file goes to the output, any other failure to the errors.
+fn print_failure<H: Host>(heap: Global, host: &H, failure: &Failure<'_>) -> io::Result<()> {
+    let line = failure.line(heap)?;
+    if failure.is_answer() {
+        host.print(&line)
+    } else {
+        host.complain(line.as_str())
+    }
+}
+
+/// Prints the report, and why the run stopped, if it did: an answer about a file to the output, any other failure to the
+/// errors.
+pub fn print<H: Host>(heap: Global, host: &H, outcome: &Outcome<'_>) -> io::Result<()> {
+    match outcome {
+        Ok(report) => {
+            host.print(report)?;
+            match report.failure() {
+                Some(failure) => print_failure(heap, host, &failure),
+                None => Ok(()),
+            }
+        }
+        Err(failure) => print_failure(heap, host, failure),
     }
 }

@@ -9,5 +9,3 @@ mod checks;
 mod neutral;
 pub mod refusal;
 pub mod settings;
-#[cfg(test)]
-mod tests;

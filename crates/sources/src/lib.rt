@@ -17,6 +17,4 @@ pub mod pairing;
 pub mod place;
 pub mod scan;
 pub mod source;
-#[cfg(test)]
-mod tests;
 pub mod whole;

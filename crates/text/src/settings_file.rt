@@ -7,5 +7,3 @@ pub mod fault;
 mod forms;
 pub mod reader;
 pub mod setting;
-#[cfg(test)]
-mod tests;

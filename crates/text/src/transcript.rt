@@ -4,5 +4,3 @@
 // its answer.
 pub mod answers;
 pub mod step;
-#[cfg(test)]
-mod tests;

@@ -1,6 +1,6 @@
 // The edges of every range, and what a refusal says.
-use crate::refusal::SettingRefusal;
-use crate::settings::{RawPath, Settings};
+use settings::refusal::SettingRefusal;
+use settings::settings::{RawPath, Settings};
 use std::test::Fail;
 
 // The number of the refusal that a call answered, 0 for none.

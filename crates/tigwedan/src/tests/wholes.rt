@@ -1,8 +1,8 @@
 // Wholes of listed items.
-use crate::fault::{Fault, FaultKind};
-use crate::listed::Listed;
-use crate::source::Source;
-use crate::whole::Whole;
+use sources::fault::{Fault, FaultKind};
+use sources::listed::Listed;
+use sources::source::Source;
+use sources::whole::Whole;
 use std::test::Fail;
 
 #[test]

@@ -1,9 +1,9 @@
 // Files of calls, and what is reported of their answers.
-use crate::entries::read_all;
-use crate::transcript::answers::AnswerLines;
-use crate::transcript::step::{Step, calls_of};
 use player::calls::{Answer, Call};
 use std::test::Fail;
+use text::entries::read_all;
+use text::transcript::answers::AnswerLines;
+use text::transcript::step::{Step, calls_of};
 
 #[test]
 fn each_step_makes_its_call(rt: HostRuntime) -> Result<(), Fail> {

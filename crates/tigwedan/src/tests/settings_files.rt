@@ -1,7 +1,7 @@
 // What reading a file answers: the line that stops it, and why.
-use crate::settings_file::reader::read;
 use std::alloc::{AllocError, Global};
 use std::test::Fail;
+use text::settings_file::reader::read;
 
 // What the file comes to, in words.
 fn answer_in_words(heap: Global, bytes: &[u8]) -> Result<String, AllocError> {

@@ -1,16 +1,16 @@
 // Runs over a host that keeps its files in memory, and fails where it is asked to.
 ghost use Rattle.std.specs.Prelude.{None, ⊤};
 
-use crate::host::Host;
-use crate::report::status;
-use crate::run::run;
+use program::host::Host;
+use program::report::status;
+use program::run::run;
 use recorder::session::write;
 use samples::kinds::ConverterSample;
 use samples::sample::Sample;
 use std::alloc::Global;
-use std::io;
 use std::test::Fail;
 use std::time::Duration;
+use std::{fmt, io};
 
 // One gain index, at 8000 samples a second.
 const GAIN: [u8; 46] =
@@ -54,6 +54,8 @@ impl Memory {
 impl Host for Memory {
     ghost written = { λ _. None };
 
+    ghost may_read = { λ _ _ _. ⊤ };
+
     ghost may_say_same = { λ _ _ _ _. ⊤ };
 
     ghost may_say_other = { λ _ _ _. ⊤ };
@@ -92,6 +94,14 @@ impl Host for Memory {
     }
 
     fn report_progress(&self, _samples: u64, _files: u32) -> io::Result<()> {
+        Ok(())
+    }
+
+    fn print<T: fmt::Display>(&self, _text: &T) -> io::Result<()> {
+        Ok(())
+    }
+
+    fn complain(&self, _line: &str) -> io::Result<()> {
         Ok(())
     }
 }
