@@ -3,7 +3,7 @@
 # move error and so cannot be a must-fail edit, and letting a started one go. The same text without them is proved.
 #
 # The crate is checked over the libraries that `rt ci` proved just before and left in crates/*/out. Where they are not
-# there, `rt lib` builds them.
+# there, or are those of a session's own checks, which may be older than the sources, `rt lib` builds them.
 set -eu
 cd "$(dirname "$0")/.."
 kit=$(dirname "$(rt doc)")
@@ -21,7 +21,8 @@ while [ -n "$todo" ]; do
     todo=$(echo $next)
 done
 for crate in $needed; do
-    [ -d "crates/$crate/out/rlib/$crate.rlib" ] || { (cd crates/recorder && rt lib) >/dev/null; break; }
+    out=crates/$crate/out/rlib
+    [ -d "$out/$crate.rlib" ] && [ ! -e "$out/stamp" ] || { (cd crates/recorder && rt lib) >/dev/null; break; }
 done
 
 room=$(mktemp -d)
