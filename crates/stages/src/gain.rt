@@ -59,7 +59,7 @@ impl Gain {
 
 /// The same gain for every sample of kind K: of a working sample, as the channel's path loss, or of an air sample, at the
 /// receiver. The kind stands in the type: a mapping has one kind of item.
-#[derive(Drop)]
+#[derive(Clone, Copy)]
 pub struct FixedGain<K> {
     gain: Gain,
     kind: PhantomData<K>,
