@@ -1,13 +1,17 @@
 -- Recordings that open.
-use Rattle.std.proofs.Common.{◌≡◌, ℕ, min, List, Ok, Err, IfOk, OnOk, Option, Result, string_bytes, sym, ap, ◌∙◌, subst}
+use Rattle.std.proofs.Common.{◌≡◌, ℕ, ◌+◌, ◌*◌, min, List, [], ◌∷◌, length, take, Ok, Err, IfOk, OnOk, Option, Result, string_bytes, sym, ap, ap₂, ◌∙◌, subst, arith}
+use Rattle.std.proofs.lemmas.List.{take_all}
 use Rattle.samples.specs.declared.kinds.ConverterSample.{ConverterSample}
 use Rattle.samples.specs.declared.gain_index.GainIndex.{GainIndex}
 use Rattle.chain.specs.Chains.{played}
 use Rattle.settings.specs.declared.settings.Settings.{Settings}
-use Rattle.recordings.specs.Opening.{Opened}
-use Rattle.program.specs.Files.{Adds, File, counted_files, files_of}
+use Rattle.recordings.specs.Opening.{Opened, Reading, opened_of, signal_opening}
+use Rattle.recorder.specs.Writing.{recorded}
+use Rattle.recorder.proofs.Back.{hands_out, recorded_length}
+use Rattle.sources.specs.Streams.{tabulate}
+use Rattle.program.specs.Files.{Adds, File, counted_files, file_of, files_for, files_of, recording_of}
 use Rattle.program.specs.Names.{numbered}
-use Rattle.program.specs.Outcomes.{Copies, Plays, files_taken, written_of}
+use Rattle.program.specs.Outcomes.{Copies, KeepsBytes, Plays, files_taken, written_of}
 use Rattle.program.specs.Sides.{first_ended, sides_answer, sides_of}
 use Rattle.program.specs.declared.copy.Copied.{Copied}
 use Rattle.program.specs.declared.play.Played.{Played}
@@ -21,6 +25,11 @@ same_sides s link both sides ending h k =
     let answer : Ok (sides_of s both.0.whole both.1.whole) ≡ Ok sides = sym (ap (sides_answer s) k) ∙ h in
     let same : sides ≡ sides_of s both.0.whole both.1.whole = cc in
     ap (first_ended ending) same
+
+-- what both recordings have left, at their start, is counted
+pub counted : {E : Type 0} (s : Settings) (link : Result (Opened ConverterSample × Opened GainIndex) E) (signal : Reading ConverterSample) (gain : Reading GainIndex) (sides : Sides)
+    → link ≡ Ok (opened_of signal, opened_of gain) → signal.left ≡ signal.whole → gain.left ≡ gain.whole → sides ≡ sides_of s signal.left gain.left → sides_answer s link ≡ Ok sides
+counted s link signal gain sides opens a b h = ap (sides_answer s) opens ∙ ap Ok (sym (h ∙ ap₂ (sides_of s) a b))
 
 -- the files that the sides take are those of the chain
 pub taken : {E : Type 0} (s : Settings) (link : Result (Opened ConverterSample × Opened GainIndex) E) (sides : Sides)
@@ -37,6 +46,18 @@ pub copies : {E : Type 0} (opening : Result (Opened ConverterSample) E) (o : Ope
 copies opening o to before after answer opens named rate written files last =
     subst (λ (x : Result (Opened ConverterSample) _). Copies x to before after answer) (sym opens)
     (record { named = named; rate = rate; written = written; files = subst (λ (r : ℕ). Adds (files_of to r o.whole.items) before after) rate files; last = last })
+
+-- a recording of the shape that we write opens as its samples, which take one file
+pub keeps_bytes : (b to : List ℕ) (before after : Option (List File)) (answer : Copied) → Copies (signal_opening 0 b) to before after answer → KeepsBytes b to before after
+unfolding recording_of
+keeps_bytes b to before after answer copied rate xs good e short =
+    let long : length b ≡ 44 + 4 * length xs = ap length e ∙ recorded_length rate xs in
+    let opens : signal_opening 0 b ≡ Ok (record { rate = rate; whole = record { items = xs; ending = Ok tt } }) = ap (signal_opening 0) e ∙ hands_out rate xs good (omega arith) 0 in
+    let one : files_for (length xs) ≡ 1 = omega arith in
+    let all : take 16373 xs ≡ xs = take_all 16373 xs (omega arith) in
+    let files : files_of to rate xs ≡ (to, b) ∷ [] =
+    ap (tabulate (file_of to rate xs) 0) one ∙ ap (λ (ys : List ConverterSample). (to, recorded rate ys) ∷ []) all ∙ ap (λ (c : List ℕ). (to, c) ∷ []) (sym e) in
+    subst (λ (fs : List File). Adds fs before after) files (subst (λ (x : Result (Opened ConverterSample) _). Copies x to before after answer) opens copied).files
 
 -- what was written of a chain over recordings that opened
 pub plays : {E : Type 0} (s : Settings) (link : Result (Opened ConverterSample × Opened GainIndex) E) (both : Opened ConverterSample × Opened GainIndex)

@@ -1,17 +1,23 @@
 -- The names of the files that hold one signal, and which of them are refused.
-use Rattle.std.specs.Prelude.{ℕ, ◌+◌, ◌<◌, Bool, false, IfSome, List, ◌++◌, Option, Some, None, codes, decimal, unwrap_or, if◌then◌else◌, ◌==◌}
-use Rattle.std.specs.Path.{path_extension, path_file_stem, path_with_file_name}
+use Rattle.std.specs.Prelude.{ℕ, ◌+◌, ◌-◌, ◌<◌, Bool, false, IfSome, List, ◌++◌, length, take, Option, Some, None, codes, decimal, if◌then◌else◌, ◌==◌}
+use Rattle.std.specs.Path.{path_extension}
+use Rattle.std.specs.Str.{bytes_eq}
 use Rattle.program.specs.declared.inputs.Inputs.{Inputs}
 
--- stem-2.ending, or stem-2 without an ending
+-- the name up to its ending, then -2 and the ending; the name and -2 where it does not end so
+abbrev pub name_before : List ℕ → ℕ → List ℕ → List ℕ
+name_before to n ending =
+    let stem = take (length to - length ending) to in
+    if bytes_eq to (stem ++ ending) then stem ++ (codes "-" ++ (decimal n ++ ending)) else to ++ (codes "-" ++ decimal n)
+
+-- stem-2.ending, or the name and -2 without an ending
 abbrev pub part_name : List ℕ → ℕ → Option (List ℕ) → List ℕ
-part_name stem n None = stem ++ (codes "-" ++ decimal n)
-part_name stem n (Some ending) = stem ++ (codes "-" ++ (decimal n ++ (codes "." ++ ending)))
+part_name to n None = to ++ (codes "-" ++ decimal n)
+part_name to n (Some ending) = name_before to n (codes "." ++ ending)
 
 -- file 1 has the name itself, file n has -n before the ending
 abbrev pub numbered : List ℕ → ℕ → List ℕ
-numbered to n =
-    if n == 1 then to else path_with_file_name to (part_name (unwrap_or (path_file_stem to) to) n (path_extension to))
+numbered to n = if n == 1 then to else part_name to n (path_extension to)
 
 -- For none of these names the host reported that something else than a recording lies there.
 abbrev pub Clears : (List ℕ → Bool → Type 0) → List ℕ → ℕ → Type 0

@@ -1,5 +1,5 @@
 -- What is reported of a signal that was written.
-use Rattle.std.specs.Prelude.{◌≡◌, ℕ, Bool, length, List, Option, Result, Ok, Err, string_bytes}
+use Rattle.std.specs.Prelude.{◌≡◌, ℕ, ◌≤◌, Bool, true, length, List, [], ◌∷◌, Option, Result, Ok, Err, string_bytes}
 use Rattle.samples.specs.declared.kinds.ConverterSample.{ConverterSample}
 use Rattle.samples.specs.declared.gain_index.GainIndex.{GainIndex}
 use Rattle.sources.specs.Streams.{Stream}
@@ -7,6 +7,8 @@ use Rattle.settings.specs.declared.settings.Settings.{Settings}
 use Rattle.chain.specs.Chains.{played}
 use Rattle.player.specs.Plain.{ending_answer}
 use Rattle.recordings.specs.Opening.{Opened}
+use Rattle.recordings.specs.Rates.{good_rate}
+use Rattle.recorder.specs.Writing.{recorded}
 use Rattle.program.specs.Files.{Adds, File, counted_files, files_for, files_of}
 use Rattle.program.specs.Levels.{levels_of}
 use Rattle.program.specs.Names.{Clears, Spares, SparesAll, numbered}
@@ -59,6 +61,12 @@ abbrev pub Copies : {E : Type 0} → Result (Opened ConverterSample) E → List 
     → Option (List File) → Option (List File) → Copied → Type 0
 Copies (Ok recording) to before after answer = CopiesAll recording to before after answer
 Copies (Err e) to before after answer = ⊥
+
+-- A recording of the shape that we write, up to 65,536 bytes long, is copied to one file, which has every byte of it.
+abbrev pub KeepsBytes : List ℕ → List ℕ → Option (List File) → Option (List File) → Type 0
+KeepsBytes b to before after =
+    (rate : ℕ) (xs : List ConverterSample) → good_rate rate ≡ true → b ≡ recorded rate xs → length b ≤ 65536
+    → Adds ((to, b) ∷ []) before after
 
 abbrev pub copied_files : {E : Type 0} → Result (Opened ConverterSample) E → ℕ
 copied_files (Ok recording) = counted_files (length recording.whole.items)

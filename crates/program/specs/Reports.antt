@@ -1,5 +1,5 @@
 -- What is reported, in words.
-use Rattle.std.specs.Prelude.{ℕ, ◌*◌, ◌-◌, ◌^◌, ◌/◌, ◌%◌, min, max, List, [], ◌∷◌, ◌++◌, map, codes, decimal, string_bytes, Option, Some, None, Result, Ok, Err}
+use Rattle.std.specs.Prelude.{ℕ, ◌*◌, ◌-◌, ◌^◌, ◌/◌, ◌%◌, min, max, List, [], ◌∷◌, ◌++◌, length, map, take, codes, decimal, string_bytes, Option, Some, None, Result, Ok, Err}
 use Rattle.std.specs.Duration.{as_nanos}
 use Rattle.samples.specs.declared.kinds.ConverterSample.{ConverterSample}
 use Rattle.sources.specs.Faults.{at_item_text}
@@ -79,6 +79,12 @@ compared_text compared = difference_text compared.items compared.difference
 abbrev pub replayed_text : List (Numbered Step) → List (Answer ConverterSample) → Compared → List ℕ
 replayed_text steps answers compared = answer_lines steps (map answered answers) ++ compared_text compared
 
+-- the line of each call, but for the end of the last, where block sizes were not compared
+abbrev pub answered_lines : List (Numbered Step) → List (Answer ConverterSample) → List ℕ
+answered_lines steps answers =
+    let lines = answer_lines steps (map answered answers) in
+    take (length lines - 1) lines
+
 -- tenths of a nanosecond an item, cut off
 abbrev pub tenths_an_item : Timed → ℕ
 tenths_an_item timed = min (as_nanos timed.time * 10) (2 ^ 128 - 1) / max timed.items 1
@@ -94,6 +100,7 @@ abbrev pub report_text : Report → Option (List ℕ)
 report_text (Checked file input contents) = Some (checked_text file.now input contents)
 report_text (WasCopied from copied) = Some (copied_text copied)
 report_text (WasPlayed inputs played) = Some (played_text played)
-report_text (Replayed steps answers compared) = Some (replayed_text steps.items answers.items compared)
+report_text (Replayed steps answers (Some compared)) = Some (replayed_text steps.items answers.items compared)
+report_text (Replayed steps answers None) = Some (answered_lines steps.items answers.items)
 report_text (WasTimed inputs timed) = Some (timed_text timed)
 report_text _ = None

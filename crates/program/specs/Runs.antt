@@ -1,5 +1,5 @@
 -- What a run does for a command, and what it reports.
-use Rattle.std.specs.Prelude.{◌≡◌, ℕ, Bool, List, map, max, ◌⊎◌, Option, Some, None, Result, Ok, Err}
+use Rattle.std.specs.Prelude.{◌≡◌, ◌≢◌, ℕ, Bool, List, [], map, max, ◌⊎◌, Option, Some, None, MatchOption, Result, Ok, Err}
 use Rattle.std.specs.List.{AllZip}
 use Rattle.std.specs.Option.{option_map}
 use Rattle.samples.specs.declared.kinds.ConverterSample.{ConverterSample}
@@ -24,7 +24,7 @@ use Rattle.program.specs.Bench.{TimedOf}
 use Rattle.program.specs.Comparing.{alike}
 use Rattle.program.specs.Contents.{checked}
 use Rattle.program.specs.Files.{File}
-use Rattle.program.specs.Outcomes.{CopiesSparing, PlaysSparing}
+use Rattle.program.specs.Outcomes.{CopiesSparing, KeepsBytes, PlaysSparing}
 use Rattle.program.specs.Refusals.{refusal_in, refusal_of, refusal_of_link}
 use Rattle.program.specs.Words.{without_mark}
 use Rattle.program.specs.declared.arguments.Command.{Command}
@@ -74,12 +74,13 @@ abbrev pub OfChain : (Stream ConverterSample → Type 0) → Settings → Link �
 OfChain P s (Ok both) = P (played s both.0.whole both.1.whole)
 OfChain P s (Err e) = ⊥
 
--- these steps, the answers to their calls in order, and that the block size makes no difference
+-- These steps, the answers to their calls in order, and that the block size makes no difference; without the last only
+-- where there are steps, and too little memory to compare block sizes.
 abbrev pub Replays : List (Numbered Step) → Report → Stream ConverterSample → Type 0
 Replays steps (Replayed made answers compared) w =
     (made.items ≡ steps)
     × (map answered answers.items ≡ plain_run w 0 (asked_by steps))
-    × (compared ≡ alike w)
+    × MatchOption compared (steps ≢ []) (λ c. c ≡ alike w)
 Replays steps _ w = ⊥
 
 -- so many runs, and what was timed of them
@@ -111,7 +112,8 @@ Does read same other before after (Check input file) (Checked named kind content
     × ((b : List ℕ) × read file.now b × (checked input b ≡ Ok contents))
 Does read same other before after (Copy from to) (Copied named answer) =
     (named.now ≡ from.now)
-    × ((b : List ℕ) × read from.now b × CopiesSparing same other from.now (signal_opening 0 b) to.now before after answer)
+    × ((b : List ℕ) × read from.now b × CopiesSparing same other from.now (signal_opening 0 b) to.now before after answer
+    × KeepsBytes b to.now before after)
 Does read same other before after (Chain inputs task) report = DoesTask read same other before after inputs task report
 Does read same other before after _ _ = ⊥
 

@@ -107,6 +107,21 @@ fn play_often<'a, S: Source<Item = ConverterSample>, H: Host>(
     Ok(best)
 }
 
+/// Plays the player's whole from its start so often, at least once, and answers the best time.
+pub fn time_player<'a, S: Source<Item = ConverterSample> + Drop, H: Host>(
+    heap: Global,
+    host: &H,
+    mut player: Player<S>,
+    runs: u32,
+) -> Result<Timed, Failure<'a>>
+    ensures timed { IfOk result (TimedOf player.whole) }
+    ensures runs { IfOk result (λ timed. timed.runs ≡ max 1 runs) }
+    ensures opened { IfErr result (λ e. refusal_in e ≡ None) }
+{
+    let mut block = copies(heap, ConverterSample::new(0, 0), BLOCK)?;
+    play_often(host, &mut player, block.as_mut_slice(), runs)
+}
+
 /// Plays the whole of the source so often, at least once, and answers the best time.
 pub fn time<'a, S: Source<Item = ConverterSample> + Drop, H: Host>(
     heap: Global,
@@ -118,7 +133,5 @@ pub fn time<'a, S: Source<Item = ConverterSample> + Drop, H: Host>(
     ensures runs { IfOk result (λ timed. timed.runs ≡ max 1 runs) }
     ensures opened { IfErr result (λ e. refusal_in e ≡ None) }
 {
-    let mut block = copies(heap, ConverterSample::new(0, 0), BLOCK)?;
-    let mut player = Player::new(source);
-    play_often(host, &mut player, block.as_mut_slice(), runs)
+    time_player(heap, host, Player::new(source), runs)
 }

@@ -22,7 +22,8 @@ pub struct Counted {
 
 /// Counts what the source has left, and passes it over.
 pub fn count<S: Source>(source: &mut S) -> Counted
-    ensures { result ≡ counted_of (S.left source.old) }
+    ensures counts { result ≡ counted_of (S.left source.old) }
+    ensures whole { S.whole source.new ≡ S.whole source.old }
 {
     let mut items = 0u64;
     for _item in source.items() {

@@ -2,10 +2,10 @@
 ghost use Rattle.std.specs.Prelude.{◌≡◌, IfOk, IfErr, OnOk, true, false, None};
 ghost use Rattle.recordings.specs.Opening.{signal_opening};
 ghost use Rattle.program.specs.Names.{Clears, Spares};
-ghost use Rattle.program.specs.Outcomes.{Copies, copied_files};
+ghost use Rattle.program.specs.Outcomes.{Copies, KeepsBytes, copied_files};
 ghost use Rattle.program.specs.Refusals.{is_late, refusal_in, refusal_of};
 
-use crate::check::check;
+use crate::check::count;
 use crate::failure::Failure;
 use crate::host::Host;
 use crate::names::{clear, file_name, files_for, spare};
@@ -29,24 +29,11 @@ pub struct Copied<'a> {
     pub written: Written,
 }
 
-// How many files the copy takes. A recording has never more samples than are counted.
-fn count_files<'a>(from: &'a str, bytes: &[u8]) -> Result<u32, Failure<'a>>
-    ensures answer { IfOk result (λ files. files ≡ copied_files (signal_opening 0 bytes.now)) }
-    ensures opens { OnOk result (refusal_of from.now (signal_opening 0 bytes.now) ≡ None) }
-    ensures refuses { IfErr result (λ e. refusal_in e
-        ≡ refusal_of from.now (signal_opening 0 bytes.now)) }
-{
-    match check(bytes, Input::Signal) {
-        Ok(contents) if contents.counted.items < u64::MAX => {
-            Ok(files_for(u128::from(contents.counted.items)))
-        }
-        Ok(_) => Err(Failure::TooManyFiles),
-        Err(refusal) => Err(Failure::Refused(from, Refused(refusal))),
-    }
-}
-
-// Writes the copy.
-fn copy_all<'a, H: Host>(
+/// Writes the samples in the bytes of the signal recording `from`, up to its end or its fault, to the file `to` and further
+/// ones. A recording of the shape that is written here, up to 65,536 bytes long, comes out byte for byte the same. A recording
+/// that does not open is refused, and so is a run that would write over it, or over what is no recording; then nothing is
+/// written.
+pub fn copy<'a, H: Host>(
     heap: Global,
     host: &mut H,
     from: &'a str,
@@ -55,14 +42,28 @@ fn copy_all<'a, H: Host>(
 ) -> Result<Copied<'a>, Failure<'a>>
     ensures copies { IfOk result (Copies (signal_opening 0 bytes.now) to.now
         (H.written host.old) (H.written host.new)) }
+    ensures unchanged { OnOk result (KeepsBytes bytes.now to.now
+        (H.written host.old) (H.written host.new)) }
+    ensures spares { OnOk result (Spares (H.may_say_same host.old) from.now to.now
+        (copied_files (signal_opening 0 bytes.now))) }
+    ensures clears { OnOk result (Clears (H.may_say_other host.old) to.now
+        (copied_files (signal_opening 0 bytes.now))) }
     ensures refuses { IfErr result (λ e. refusal_in e
         ≡ refusal_of from.now (signal_opening 0 bytes.now)) }
     ensures keeps { IfErr result (λ e. is_late e ≡ false
         → H.written host.new ≡ H.written host.old) }
 {
     match Recording::<Signal>::open(bytes, Input::Signal.number()) {
-        Ok(recording) => {
+        Ok(mut recording) => {
             let rate = recording.rate();
+            let items = count(&mut recording).items;
+            // A recording has never more than are counted.
+            if items == u64::MAX {
+                return Err(Failure::TooManyFiles);
+            }
+            let files = files_for(u128::from(items));
+            spare(heap, host, from, to, files)?;
+            clear(heap, host, to, files)?;
             let written = write_files(heap, host, recording, to, rate)?;
             let last = file_name(heap, to, written.files)?;
             Ok(Copied {
@@ -74,31 +75,4 @@ fn copy_all<'a, H: Host>(
         }
         Err(refusal) => Err(Failure::Refused(from, Refused(refusal))),
     }
-}
-
-/// Writes the samples in the bytes of the signal recording `from`, up to its end or its fault, to the file `to` and further
-/// ones. A recording that does not open is refused, and so is a run that would write over it, or over what is no
-/// recording; then nothing is written.
-pub fn copy<'a, H: Host>(
-    heap: Global,
-    host: &mut H,
-    from: &'a str,
-    bytes: &[u8],
-    to: &'a str,
-) -> Result<Copied<'a>, Failure<'a>>
-    ensures copies { IfOk result (Copies (signal_opening 0 bytes.now) to.now
-        (H.written host.old) (H.written host.new)) }
-    ensures spares { OnOk result (Spares (H.may_say_same host.old) from.now to.now
-        (copied_files (signal_opening 0 bytes.now))) }
-    ensures clears { OnOk result (Clears (H.may_say_other host.old) to.now
-        (copied_files (signal_opening 0 bytes.now))) }
-    ensures refuses { IfErr result (λ e. refusal_in e
-        ≡ refusal_of from.now (signal_opening 0 bytes.now)) }
-    ensures keeps { IfErr result (λ e. is_late e ≡ false
-        → H.written host.new ≡ H.written host.old) }
-{
-    let files = count_files(from, bytes)?;
-    spare(heap, host, from, to, files)?;
-    clear(heap, host, to, files)?;
-    copy_all(heap, host, from, bytes, to)
 }

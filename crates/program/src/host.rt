@@ -60,9 +60,10 @@ const MARK: [u8; 4] = *b"RIFF";
 #[derive(Clone, Copy)]
 pub struct Disk<'a, R>(pub &'a R);
 
-// A name without `./` in front.
+// A name without `./` in front. One that goes on with a `/` stays: without it, it would be that of another file.
 fn plain_name(name: &str) -> &str {
-    name.trim_start_matches("./")
+    let plain = name.trim_start_matches("./");
+    if plain.starts_with('/') { name } else { plain }
 }
 
 // Both are files that the system tells apart by device and inode.

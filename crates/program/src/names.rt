@@ -1,7 +1,7 @@
 // The names of the files that hold one signal, and which of them are refused.
 ghost use Rattle.std.specs.Prelude.{◌≡◌, IfOk, IfErr, OnOk, None, string_bytes};
 ghost use Rattle.program.specs.Files.{counted_files};
-ghost use Rattle.program.specs.Names.{Clears, Spares, SparesAll, numbered};
+ghost use Rattle.program.specs.Names.{Clears, Spares, SparesAll, name_before, numbered};
 ghost use Rattle.program.specs.Refusals.{refusal_in};
 
 use crate::failure::Failure;
@@ -10,6 +10,16 @@ use crate::inputs::Inputs;
 use std::alloc::{AllocError, Global};
 use std::path::Path;
 
+// The name with its number before the ending, which has its dot; the name is spelt as it was.
+fn name_before(heap: Global, to: &str, ending: &str, number: u32) -> Result<String, AllocError>
+    ensures { IfOk result (λ name. string_bytes name ≡ name_before to.now number ending.now) }
+{
+    match to.strip_suffix(ending) {
+        Some(stem) => format!(in heap; "{stem}-{number}{ending}"),
+        None => format!(in heap; "{to}-{number}"),
+    }
+}
+
 /// The name of file number `number`, from 1: out.wav, then out-2.wav, out-3.wav ..
 pub fn file_name(heap: Global, to: &str, number: u32) -> Result<String, AllocError>
     ensures { IfOk result (λ name. string_bytes name ≡ numbered to.now number) }
@@ -17,13 +27,13 @@ pub fn file_name(heap: Global, to: &str, number: u32) -> Result<String, AllocErr
     if number == 1 {
         return String::from_str(heap, to);
     }
-    let path = Path::new(to);
-    let stem = path.file_stem().unwrap_or(to);
-    let name = match path.extension() {
-        Some(ending) => format!(in heap; "{stem}-{number}.{ending}")?,
-        None => format!(in heap; "{stem}-{number}")?,
-    };
-    Ok(path.with_file_name(heap, name.as_str())?.into_string())
+    match Path::new(to).extension() {
+        Some(ending) => {
+            let ending = format!(in heap; ".{ending}")?;
+            name_before(heap, to, ending.as_str(), number)
+        }
+        None => format!(in heap; "{to}-{number}"),
+    }
 }
 
 /// How many files so many samples take; none takes one too. More than are counted are reported as 4294967295.

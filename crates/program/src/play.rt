@@ -6,7 +6,7 @@ ghost use Rattle.program.specs.Files.{Adds, files_of};
 ghost use Rattle.program.specs.Names.{SparesAll};
 ghost use Rattle.program.specs.Outcomes.{files_taken, written_of, Plays};
 ghost use Rattle.program.specs.Refusals.{is_late, refusal_in, refusal_of_link};
-ghost use Rattle.program.specs.Sides.{sides_answer};
+ghost use Rattle.program.specs.Sides.{sides_of};
 
 use crate::check::count;
 use crate::failure::Failure;
@@ -14,8 +14,8 @@ use crate::host::Host;
 use crate::inputs::Inputs;
 use crate::names::{file_name, files_for, spare_inputs};
 use crate::sides::{Sides, gain_side_of, signal_side_of};
-use crate::written::{Written, write_files};
-use chain::standard::standard_chain;
+use crate::written::{Written, write_player};
+use chain::playing::standard_player;
 use recordings::pair::{Input, LinkRecordings};
 use samples::gain_index::GainIndex;
 use samples::kinds::ConverterSample;
@@ -62,79 +62,32 @@ fn play_chain<
     ensures late { IfErr result (λ e. is_late e ≡ true) }
     ensures opened { IfErr result (λ e. refusal_in e ≡ None) }
 {
-    let chain = standard_chain(settings, signal, gain);
-    write_files(heap, host, chain, to, rate)
+    let player = standard_player(settings, signal, gain);
+    write_player(heap, host, player, to, rate)
 }
 
-// How many items both sides of the receiver have. A recording has never more than are counted.
-fn sides_of<'a>(
+// How many items both sides of the receiver have, from what both sources have left, which is passed over. A recording has
+// never more than are counted.
+fn sides_of<'a, S: Source<Item = ConverterSample>, G: Source<Item = GainIndex>>(
     settings: &Settings,
-    inputs: &Inputs<'a>,
-    signal: &[u8],
-    gain: &[u8],
+    signal: &mut S,
+    gain: &mut G,
 ) -> Result<Sides, Failure<'a>>
-    ensures answer { IfOk result (λ sides.
-        sides_answer settings.now (link_opening signal.now gain.now) ≡ Ok sides) }
-    ensures opens { OnOk result (refusal_of_link inputs.now (link_opening signal.now gain.now)
-        ≡ None) }
-    ensures refuses { IfErr result (λ e. refusal_in e
-        ≡ refusal_of_link inputs.now (link_opening signal.now gain.now)) }
+    ensures answer { IfOk result (λ sides. sides
+        ≡ sides_of settings.now (S.left signal.old) (G.left gain.old)) }
+    ensures signal { S.whole signal.new ≡ S.whole signal.old }
+    ensures gain { G.whole gain.new ≡ G.whole gain.old }
+    ensures opened { IfErr result (λ e. refusal_in e ≡ None) }
 {
-    match LinkRecordings::open(signal, gain) {
-        Ok(
-            LinkRecordings {
-                mut signal,
-                mut gain,
-            },
-        ) => {
-            let samples = count(&mut signal).items;
-            let indices = count(&mut gain).items;
-            if samples == u64::MAX || indices == u64::MAX {
-                return Err(Failure::TooManyFiles);
-            }
-            Ok(Sides {
-                signal: signal_side_of(settings, samples),
-                gain: gain_side_of(settings, indices),
-            })
-        }
-        Err(refusal) => Err(inputs.refused(refusal)),
+    let samples = count(signal).items;
+    let indices = count(gain).items;
+    if samples == u64::MAX || indices == u64::MAX {
+        return Err(Failure::TooManyFiles);
     }
-}
-
-// Plays the chain whose sides are known.
-fn play_both<'a, H: Host>(
-    heap: Global,
-    host: &mut H,
-    settings: &Settings,
-    inputs: &Inputs<'a>,
-    sides: Sides,
-    signal: &[u8],
-    gain: &[u8],
-    to: &'a str,
-) -> Result<Played<'a>, Failure<'a>>
-    requires { sides_answer settings.now (link_opening signal.now gain.now) ≡ Ok sides }
-    ensures plays { IfOk result (Plays settings.now (link_opening signal.now gain.now) to.now
-        (H.written host.old) (H.written host.new)) }
-    ensures refuses { IfErr result (λ e. refusal_in e
-        ≡ refusal_of_link inputs.now (link_opening signal.now gain.now)) }
-    ensures keeps { IfErr result (λ e. is_late e ≡ false
-        → H.written host.new ≡ H.written host.old) }
-{
-    match LinkRecordings::open(signal, gain) {
-        Ok(LinkRecordings { signal, gain }) => {
-            let rate = signal.rate();
-            let written = play_chain(heap, host, settings, signal, gain, to, rate)?;
-            let last = file_name(heap, to, written.files)?;
-            Ok(Played {
-                to,
-                last,
-                rate,
-                written,
-                first_ended: sides.first_ended(&written.ending),
-            })
-        }
-        Err(refusal) => Err(inputs.refused(refusal)),
-    }
+    Ok(Sides {
+        signal: signal_side_of(settings, samples),
+        gain: gain_side_of(settings, indices),
+    })
 }
 
 /// Plays the standard chain over the bytes of a signal and of a gain recording, and writes what comes out, from its start to its
@@ -158,13 +111,27 @@ pub fn play<'a, H: Host>(
     ensures keeps { IfErr result (λ e. is_late e ≡ false
         → H.written host.new ≡ H.written host.old) }
 {
-    let sides = sides_of(settings, inputs, signal, gain)?;
-    spare_inputs(
-        heap,
-        host,
-        inputs,
-        to,
-        files_for(sides.signal.min(sides.gain)),
-    )?;
-    play_both(heap, host, settings, inputs, sides, signal, gain, to)
+    match LinkRecordings::open(signal, gain) {
+        Ok(
+            LinkRecordings {
+                mut signal,
+                mut gain,
+            },
+        ) => {
+            let rate = signal.rate();
+            let sides = sides_of(settings, &mut signal, &mut gain)?;
+            let files = files_for(sides.signal.min(sides.gain));
+            spare_inputs(heap, host, inputs, to, files)?;
+            let written = play_chain(heap, host, settings, signal, gain, to, rate)?;
+            let last = file_name(heap, to, written.files)?;
+            Ok(Played {
+                to,
+                last,
+                rate,
+                written,
+                first_ended: sides.first_ended(&written.ending),
+            })
+        }
+        Err(refusal) => Err(inputs.refused(refusal)),
+    }
 }

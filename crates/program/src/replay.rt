@@ -7,8 +7,7 @@ ghost use Rattle.text.specs.Steps.{asked_by};
 ghost use Rattle.program.specs.Comparing.{PlayedWhole, alike, difference_at};
 
 use crate::block::{Block, ChainEnding, copies, next_block};
-use chain::playing::standard_run;
-use chain::standard::standard_chain;
+use chain::playing::{standard_player, standard_run};
 use player::calls::Answer;
 use player::player::Player;
 use samples::gain_index::GainIndex;
@@ -106,15 +105,14 @@ pub fn difference_at<T: Eq, E: Eq>(
     Some(Difference { size, place })
 }
 
-/// Plays the whole of the source in blocks of each size, and compares what comes out, its ending too.
-pub fn compare<S: Source<Item = ConverterSample> + Drop>(
+/// Plays the player's whole from its start in blocks of each size, and compares what comes out, its ending too.
+pub fn compare_player<S: Source<Item = ConverterSample> + Drop>(
     heap: Global,
-    source: S,
+    mut player: Player<S>,
 ) -> Result<Compared, AllocError>
-    ensures { IfOk result (λ compared. compared ≡ alike (S.whole source)) }
+    ensures { IfOk result (λ compared. compared ≡ alike player.whole) }
 {
     let [first, second, third] = SIZES;
-    let mut player = Player::new(source);
     let whole = play_in(heap, &mut player, first)?;
     let again = play_in(heap, &mut player, second)?;
     let difference = difference_at(second, &whole, &again);
@@ -124,6 +122,16 @@ pub fn compare<S: Source<Item = ConverterSample> + Drop>(
         items: whole.items.len(),
         difference: difference.or(difference_at(third, &whole, &again)),
     })
+}
+
+/// Plays the whole of the source in blocks of each size, and compares what comes out, its ending too.
+pub fn compare<S: Source<Item = ConverterSample> + Drop>(
+    heap: Global,
+    source: S,
+) -> Result<Compared, AllocError>
+    ensures { IfOk result (λ compared. compared ≡ alike (S.whole source)) }
+{
+    compare_player(heap, Player::new(source))
 }
 
 /// Plays the chain in blocks of several sizes, and compares what comes out.
@@ -136,6 +144,6 @@ pub fn compare_blocks<S: Source<Item = ConverterSample> + Drop, G: Source<Item =
     ensures { IfOk result (λ compared. compared
         ≡ alike (played settings.now (S.whole signal) (G.whole gain))) }
 {
-    let chain = standard_chain(settings, signal, gain);
-    compare(heap, chain)
+    let player = standard_player(settings, signal, gain);
+    compare_player(heap, player)
 }

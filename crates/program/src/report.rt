@@ -1,7 +1,9 @@
 // What a run reports, where that is printed, and its status.
-ghost use Rattle.std.specs.Prelude.{◌≡◌, is_some, is_err};
+ghost use Rattle.std.specs.Prelude.{◌≡◌, ◌++◌, is_some, is_err, map};
 ghost use Rattle.std.specs.Fmt.{WritesOnOk};
-ghost use Rattle.program.specs.Reports.{checked_text, copied_text, first_ended_text, played_text, compared_text, timed_text, replayed_text, report_text, recording_ending};
+ghost use Rattle.player.specs.Calls.{answered};
+ghost use Rattle.text.specs.Answers.{answer_lines, answer_text};
+ghost use Rattle.program.specs.Reports.{checked_text, copied_text, first_ended_text, played_text, compared_text, timed_text, replayed_text, answered_lines, report_text, recording_ending};
 ghost use Rattle.program.specs.Statuses.{status_of};
 
 use crate::arguments::{USAGE, VERSION};
@@ -22,7 +24,7 @@ use sources::fault::{AtItem, Ending};
 use std::alloc::Global;
 use std::{fmt, io};
 use text::numbered::Numbered;
-use text::transcript::answers::AnswerLines;
+use text::transcript::answers::{AnswerLine, AnswerLines};
 use text::transcript::step::Step;
 
 /// What a command did. It is reported on the standard output.
@@ -40,8 +42,8 @@ pub enum Report<'a> {
     Copied(&'a str, Copied<'a>),
     /// A chain was played and written.
     Played(Inputs<'a>, Played<'a>),
-    /// Calls were made, and block sizes compared.
-    Replayed(Vec<Numbered<Step>>, Vec<Answer<ConverterSample>>, Compared),
+    /// Calls were made, and block sizes compared, if there was memory for that.
+    Replayed(Vec<Numbered<Step>>, Vec<Answer<ConverterSample>>, Option<Compared>),
     /// A chain was played and timed.
     Timed(Inputs<'a>, Timed),
 }
@@ -181,6 +183,45 @@ fn fmt_replayed<W: fmt::Write>(
     fmt_compared(f, compared)
 }
 
+// These lines, and one more without its end.
+fn fmt_lines<W: fmt::Write>(
+    f: &mut fmt::Formatter<W>,
+    lines: AnswerLines<'_>,
+    last: AnswerLine<'_>,
+) -> fmt::Result
+    ensures { WritesOnOk W.write_str_gives f.old result
+        (answer_lines lines.entry.steps.now (map answered lines.entry.answers.now)
+        ++ answer_text last.entry.step (answered last.entry.answer.now)) f.new }
+{
+    write!(f, "{lines}")?;
+    write!(f, "{last}")
+}
+
+// The lines of the answers, without the end of the last one.
+fn fmt_answered<W: fmt::Write>(
+    f: &mut fmt::Formatter<W>,
+    steps: &[Numbered<Step>],
+    answers: &[Answer<ConverterSample>],
+) -> fmt::Result
+    ensures { WritesOnOk W.write_str_gives f.old result
+        (answered_lines steps.now answers.now) f.new }
+{
+    let count = steps.len().min(answers.len());
+    if count == 0 {
+        return Ok(());
+    }
+    let last = count - 1;
+    let lines = AnswerLines {
+        steps: &steps[..last],
+        answers: &answers[..last],
+    };
+    let line = AnswerLine {
+        step: steps[last].held,
+        answer: &answers[last],
+    };
+    fmt_lines(f, lines, line)
+}
+
 impl<'a> fmt::Display for Report<'a> {
     ghost output = { λ report. report_text report };
 
@@ -195,8 +236,11 @@ impl<'a> fmt::Display for Report<'a> {
             Report::Checked(file, input, contents) => fmt_checked(f, *file, *input, contents),
             Report::Copied(_, copied) => fmt_copied(f, copied),
             Report::Played(_, played) => fmt_played(f, played),
-            Report::Replayed(steps, answers, compared) => {
+            Report::Replayed(steps, answers, Some(compared)) => {
                 fmt_replayed(f, steps.as_slice(), answers.as_slice(), compared)
+            }
+            Report::Replayed(steps, answers, None) => {
+                fmt_answered(f, steps.as_slice(), answers.as_slice())
             }
             Report::Timed(_, timed) => fmt_timed(f, timed),
         }
@@ -220,8 +264,8 @@ impl<'a> Report<'a> {
     ghost use Rattle.std.specs.Prelude.{◌≡◌, is_some};
     ghost use Rattle.program.specs.Statuses.{stops};
 
-    /// Why the run stops with status 1, though it did what it reports: a fault, or a difference. A fault is an answer at
-    /// `check` and at `replay`.
+    /// Why the run stops with status 1, though it did what it reports: a fault, a difference, or too little memory to
+    /// compare block sizes. A fault is an answer at `check` and at `replay`.
     pub fn failure(&self) -> Option<Failure<'a>>
         ensures { is_some result ≡ stops self.now }
     {
@@ -232,10 +276,11 @@ impl<'a> Report<'a> {
             },
             Report::Played(inputs, played) => fault_of(inputs, &played.written.ending),
             Report::Timed(inputs, timed) => fault_of(inputs, &timed.ending),
-            Report::Replayed(_, _, compared) => match compared.difference {
+            Report::Replayed(_, _, Some(compared)) => match compared.difference {
                 None => None,
                 Some(_) => Some(Failure::BlocksDiffer),
             },
+            Report::Replayed(_, _, None) => Some(Failure::Memory),
             _ => None,
         }
     }

@@ -9,7 +9,7 @@ ghost use Rattle.program.specs.Runs.{Called, Chosen, Does, DoesTask, Fails, OfCh
 ghost use Rattle.program.specs.declared.arguments.Command.TheVariants as commands;
 
 use crate::arguments::{Command, Task, parse};
-use crate::bench::{Timed, time};
+use crate::bench::{Timed, time_player};
 use crate::check::check;
 use crate::copy::copy;
 use crate::demonstration::demonstrate;
@@ -20,7 +20,7 @@ use crate::play::play;
 use crate::printing::Refused;
 use crate::replay::{compare_blocks, replay_steps};
 use crate::report::{Outcome, Report};
-use chain::standard::standard_chain;
+use chain::playing::standard_player;
 use recordings::pair::{Input, LinkRecordings};
 use samples::gain_index::GainIndex;
 use samples::kinds::ConverterSample;
@@ -116,7 +116,8 @@ fn open<'a, 'b>(
     }
 }
 
-// Makes the calls on a player, and plays the chain again in blocks. The calls have recordings of their own, which they use up.
+// Plays the chain in blocks, and makes the calls on a player. The blocks come first: what they take of memory is given back
+// before the answers take theirs. Where there is too little for the blocks, the answers are reported all the same.
 fn run_replay<'a>(
     heap: Global,
     settings: &Settings,
@@ -131,9 +132,12 @@ fn run_replay<'a>(
         ≡ refusal_of_link inputs.entry (link_opening signal.now gain.now)) }
 {
     let opened = open(&inputs, signal, gain)?;
-    let answers = replay_steps(heap, settings, opened.signal, opened.gain, steps.as_slice())?;
+    let compared = compare_blocks(heap, settings, opened.signal, opened.gain).ok();
     let again = open(&inputs, signal, gain)?;
-    let compared = compare_blocks(heap, settings, again.signal, again.gain)?;
+    let answers = replay_steps(heap, settings, again.signal, again.gain, steps.as_slice())?;
+    if compared.is_none() && steps.is_empty() {
+        return Err(Failure::Memory);
+    }
     Ok(Report::Replayed(steps, answers, compared))
 }
 
@@ -156,8 +160,8 @@ fn time_chain<
     ensures runs { IfOk result (λ timed. timed.runs ≡ max 1 runs) }
     ensures opened { IfErr result (λ e. refusal_in e ≡ None) }
 {
-    let chain = standard_chain(settings, signal, gain);
-    time(heap, host, chain, runs)
+    let player = standard_player(settings, signal, gain);
+    time_player(heap, host, player, runs)
 }
 
 fn run_bench<'a, H: Host>(

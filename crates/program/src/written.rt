@@ -153,6 +153,34 @@ fn write_played<'a, S: Source<Item = ConverterSample>, H: Host>(
     Err(Failure::TooManyFiles)
 }
 
+// Writes what a player hands out that stands at the start of its whole.
+pub(crate) fn write_player<'a, S: Source<Item = ConverterSample> + Drop, H: Host>(
+    heap: Global,
+    host: &mut H,
+    mut player: Player<S>,
+    to: &str,
+    rate: u32,
+) -> Result<Written, Failure<'a>>
+    requires start { Stands player player.whole 0 }
+    ensures counts { IfOk result (λ written. written ≡ written_of player.whole) }
+    ensures files { OnOk result (Adds (files_of to.now rate player.whole.items)
+        (H.written host.old) (H.written host.new)) }
+    ensures late { IfErr result (λ e. is_late e ≡ true) }
+    ensures opened { IfErr result (λ e. refusal_in e ≡ None) }
+{
+    let mut block = copies(heap, ConverterSample::new(0, 0), MAX_SAMPLES)?;
+    let mut bytes = copies(heap, 0u8, MAX_BYTES)?;
+    write_played(
+        heap,
+        host,
+        &mut player,
+        to,
+        rate,
+        block.as_mut_slice(),
+        bytes.as_mut_slice(),
+    )
+}
+
 /// Writes the whole of the source at this rate to the file of this name, and what one recording does not hold to further files.
 pub fn write_files<'a, S: Source<Item = ConverterSample> + Drop, H: Host>(
     heap: Global,
@@ -167,16 +195,5 @@ pub fn write_files<'a, S: Source<Item = ConverterSample> + Drop, H: Host>(
     ensures late { IfErr result (λ e. is_late e ≡ true) }
     ensures opened { IfErr result (λ e. refusal_in e ≡ None) }
 {
-    let mut block = copies(heap, ConverterSample::new(0, 0), MAX_SAMPLES)?;
-    let mut bytes = copies(heap, 0u8, MAX_BYTES)?;
-    let mut player = Player::new(source);
-    write_played(
-        heap,
-        host,
-        &mut player,
-        to,
-        rate,
-        block.as_mut_slice(),
-        bytes.as_mut_slice(),
-    )
+    write_player(heap, host, Player::new(source), to, rate)
 }
