@@ -1,6 +1,7 @@
 -- Recordings that open.
-use Rattle.std.proofs.Common.{◌≡◌, ℕ, ◌+◌, ◌*◌, min, List, [], ◌∷◌, length, take, Ok, Err, IfOk, OnOk, Option, Result, string_bytes, sym, ap, ap₂, ◌∙◌, subst, arith}
+use Rattle.std.proofs.Common.{◌≡◌, ℕ, ◌+◌, ◌*◌, ◌≤◌, min, Bool, true, false, List, [], ◌∷◌, length, take, None, Ok, Err, IfOk, IfErr, Option, Result, string_bytes, refl, sym, ap, ap₂, ◌∙◌, subst, arith}
 use Rattle.std.proofs.lemmas.List.{take_all}
+use Rattle.std.specs.Result.{IsErrAnd}
 use Rattle.samples.specs.declared.kinds.ConverterSample.{ConverterSample}
 use Rattle.samples.specs.declared.gain_index.GainIndex.{GainIndex}
 use Rattle.chain.specs.Chains.{played}
@@ -11,7 +12,11 @@ use Rattle.recorder.proofs.Back.{hands_out, recorded_length}
 use Rattle.sources.specs.Streams.{tabulate}
 use Rattle.program.specs.Files.{Adds, File, counted_files, file_of, files_for, files_of, recording_of}
 use Rattle.program.specs.Names.{numbered}
-use Rattle.program.specs.Outcomes.{Copies, KeepsBytes, Plays, files_taken, written_of}
+use Rattle.program.specs.Outcomes.{AcceptsOwn, Copies, KeepsBytes, Plays, files_taken, written_of}
+use Rattle.program.specs.Refusals.{is_refused_by_writer, refusal_in}
+use Rattle.program.specs.declared.failure.Failure.{Failure}
+use Rattle.recordings.specs.Rates.{good_rate}
+use Rattle.recordings.specs.declared.refusal.OpeningRefusal.{OpeningRefusal}
 use Rattle.program.specs.Sides.{first_ended, sides_answer, sides_of}
 use Rattle.program.specs.declared.copy.Copied.{Copied}
 use Rattle.program.specs.declared.play.Played.{Played}
@@ -47,17 +52,40 @@ copies opening o to before after answer opens named rate written files last =
     subst (λ (x : Result (Opened ConverterSample) _). Copies x to before after answer) (sym opens)
     (record { named = named; rate = rate; written = written; files = subst (λ (r : ℕ). Adds (files_of to r o.whole.items) before after) rate files; last = last })
 
--- a recording of the shape that we write opens as its samples, which take one file
+-- a recording of the shape that we write opens as its samples
+own_opens : (b : List ℕ) (rate : ℕ) (xs : List ConverterSample) → good_rate rate ≡ true → b ≡ recorded rate xs → length b ≤ 65536
+    → signal_opening 0 b ≡ Ok (record { rate = rate; whole = record { items = xs; ending = Ok tt } })
+own_opens b rate xs good e short =
+    let long : length b ≡ 44 + 4 * length xs = ap length e ∙ recorded_length rate xs in
+    ap (signal_opening 0) e ∙ hands_out rate xs good (omega arith) 0
+
+-- they take one file
 pub keeps_bytes : (b to : List ℕ) (before after : Option (List File)) (answer : Copied) → Copies (signal_opening 0 b) to before after answer → KeepsBytes b to before after
 unfolding recording_of
 keeps_bytes b to before after answer copied rate xs good e short =
     let long : length b ≡ 44 + 4 * length xs = ap length e ∙ recorded_length rate xs in
-    let opens : signal_opening 0 b ≡ Ok (record { rate = rate; whole = record { items = xs; ending = Ok tt } }) = ap (signal_opening 0) e ∙ hands_out rate xs good (omega arith) 0 in
     let one : files_for (length xs) ≡ 1 = omega arith in
     let all : take 16373 xs ≡ xs = take_all 16373 xs (omega arith) in
     let files : files_of to rate xs ≡ (to, b) ∷ [] =
     ap (tabulate (file_of to rate xs) 0) one ∙ ap (λ (ys : List ConverterSample). (to, recorded rate ys) ∷ []) all ∙ ap (λ (c : List ℕ). (to, c) ∷ []) (sym e) in
-    subst (λ (fs : List File). Adds fs before after) files (subst (λ (x : Result (Opened ConverterSample) _). Copies x to before after answer) opens copied).files
+    subst (λ (fs : List File). Adds fs before after) files (subst (λ (x : Result (Opened ConverterSample) _). Copies x to before after answer) (own_opens b rate xs good e short) copied).files
+
+-- what does not open is none of ours
+pub not_own : (b : List ℕ) (refusal : OpeningRefusal) (rate : ℕ) (xs : List ConverterSample) → signal_opening 0 b ≡ Err refusal
+    → good_rate rate ≡ true → b ≡ recorded rate xs → length b ≤ 65536 → ⊥
+not_own b refusal rate xs h good is short = let opens = own_opens b rate xs good is short in cc
+
+-- the writer refuses no rate of ours
+decided : (t g : Bool) → (t ≡ true → g ≡ false) → g ≡ true → t ≡ false
+decided false g h k = refl
+decided true g h k = absurd (let l = h refl in cc)
+
+pub own_written : (b : List ℕ) (o : Opened ConverterSample) (e : Failure) → signal_opening 0 b ≡ Ok o → refusal_in e ≡ None
+    → (is_refused_by_writer e ≡ true → good_rate o.rate ≡ false) → AcceptsOwn b e
+own_written b o e opens r w rate xs good is short =
+    let same : Ok o ≡ Ok (record { rate = rate; whole = record { items = xs; ending = Ok tt } }) = sym opens ∙ own_opens b rate xs good is short in
+    let rates : o.rate ≡ rate = cc in
+    (r, decided (is_refused_by_writer e) (good_rate o.rate) w (ap good_rate rates ∙ good))
 
 -- what was written of a chain over recordings that opened
 pub plays : {E : Type 0} (s : Settings) (link : Result (Opened ConverterSample × Opened GainIndex) E) (both : Opened ConverterSample × Opened GainIndex)
@@ -76,10 +104,10 @@ plays s link both sides to before after answer opens known named rate written fi
       first = first ∙ same_sides s link both sides answer.written.ending known opens;
     })
 
--- what holds in any case holds of an answer
-pub of_any : {A E P : Type 0} (r : Result A E) → P → OnOk r P
-of_any (Ok x) p = p
-of_any (Err e) p = tt
+-- the error that a failed step hands on
+pub handed_on : {A E : Type 0} (Q : E → Type 0) (r : Result A E) (w : E) → IsErrAnd r (λ e. e ≡ w) → Q w → IfErr r Q
+handed_on Q (Ok x) w h q = tt
+handed_on Q (Err e) w h q = subst Q (sym h) q
 
 -- what follows from what holds of an answer holds of it
 pub if_ok : {A E : Type 0} (P Q : A → Type 0) (r : Result A E) → ((x : A) → P x → Q x) → IfOk r P → IfOk r Q

@@ -1,5 +1,5 @@
 -- What is reported of a signal that was written.
-use Rattle.std.specs.Prelude.{◌≡◌, ℕ, ◌≤◌, Bool, true, length, List, [], ◌∷◌, Option, Result, Ok, Err, string_bytes}
+use Rattle.std.specs.Prelude.{◌≡◌, ℕ, ◌≤◌, Bool, true, false, length, List, [], ◌∷◌, None, Option, Result, Ok, Err, string_bytes}
 use Rattle.samples.specs.declared.kinds.ConverterSample.{ConverterSample}
 use Rattle.samples.specs.declared.gain_index.GainIndex.{GainIndex}
 use Rattle.sources.specs.Streams.{Stream}
@@ -12,7 +12,9 @@ use Rattle.recorder.specs.Writing.{recorded}
 use Rattle.program.specs.Files.{Adds, File, counted_files, files_for, files_of}
 use Rattle.program.specs.Levels.{levels_of}
 use Rattle.program.specs.Names.{Clears, Spares, SparesAll, numbered}
+use Rattle.program.specs.Refusals.{is_refused_by_writer, refusal_in}
 use Rattle.program.specs.Sides.{first_ended, sides_of}
+use Rattle.program.specs.declared.failure.Failure.{Failure}
 use Rattle.program.specs.declared.inputs.Inputs.{Inputs}
 use Rattle.program.specs.declared.copy.Copied.{Copied}
 use Rattle.program.specs.declared.play.Played.{Played}
@@ -67,6 +69,12 @@ abbrev pub KeepsBytes : List ℕ → List ℕ → Option (List File) → Option 
 KeepsBytes b to before after =
     (rate : ℕ) (xs : List ConverterSample) → good_rate rate ≡ true → b ≡ recorded rate xs → length b ≤ 65536
     → Adds ((to, b) ∷ []) before after
+
+-- and it is never refused, by opening or by the writer
+abbrev pub AcceptsOwn : List ℕ → Failure → Type 0
+AcceptsOwn b e =
+    (rate : ℕ) (xs : List ConverterSample) → good_rate rate ≡ true → b ≡ recorded rate xs → length b ≤ 65536
+    → (refusal_in e ≡ None) × (is_refused_by_writer e ≡ false)
 
 abbrev pub copied_files : {E : Type 0} → Result (Opened ConverterSample) E → ℕ
 copied_files (Ok recording) = counted_files (length recording.whole.items)

@@ -28,6 +28,11 @@ is_late (Printing error) = true
 is_late Memory = true
 is_late _ = false
 
+-- the writer of recordings refused
+abbrev pub is_refused_by_writer : Failure → Bool
+is_refused_by_writer (NotRecorded refusal) = true
+is_refused_by_writer _ = false
+
 -- the refusal of the recording in a file, and of the first of two recordings
 abbrev pub refusal_of : {T : Type 0} → List ℕ → Result T OpeningRefusal → Option (List ℕ × OpeningRefusal)
 refusal_of file (Ok _) = None

@@ -74,8 +74,8 @@ abbrev pub OfChain : (Stream ConverterSample → Type 0) → Settings → Link �
 OfChain P s (Ok both) = P (played s both.0.whole both.1.whole)
 OfChain P s (Err e) = ⊥
 
--- These steps, the answers to their calls in order, and that the block size makes no difference; without the last only
--- where there are steps, and too little memory to compare block sizes.
+-- These steps, the answers to their calls in order, and that the block size makes no difference. The last is missing where
+-- there was no memory to compare block sizes, which only a run with steps reports; its status is 1.
 abbrev pub Replays : List (Numbered Step) → Report → Stream ConverterSample → Type 0
 Replays steps (Replayed made answers compared) w =
     (made.items ≡ steps)

@@ -13,7 +13,7 @@ stops (Replayed steps answers (Some compared)) = is_some compared.difference
 stops (Replayed steps answers None) = true
 stops _ = false
 
--- 0, or 1 where the run stopped, or met a fault or a difference
+-- 0, or 1 where the run stopped, met a fault or a difference, or compared nothing
 abbrev pub status_of : Result Report Failure → ℕ
 status_of (Ok report) = if stops report then 1 else 0
 status_of (Err failure) = 1

@@ -2,7 +2,7 @@
 ghost use Rattle.std.specs.Prelude.{◌≡◌, IfOk, IfErr, OnOk, true, false, None};
 ghost use Rattle.recordings.specs.Opening.{signal_opening};
 ghost use Rattle.program.specs.Names.{Clears, Spares};
-ghost use Rattle.program.specs.Outcomes.{Copies, KeepsBytes, copied_files};
+ghost use Rattle.program.specs.Outcomes.{AcceptsOwn, Copies, KeepsBytes, copied_files};
 ghost use Rattle.program.specs.Refusals.{is_late, refusal_in, refusal_of};
 
 use crate::check::count;
@@ -44,6 +44,7 @@ pub fn copy<'a, H: Host>(
         (H.written host.old) (H.written host.new)) }
     ensures unchanged { OnOk result (KeepsBytes bytes.now to.now
         (H.written host.old) (H.written host.new)) }
+    ensures accepted { IfErr result (AcceptsOwn bytes.now) }
     ensures spares { OnOk result (Spares (H.may_say_same host.old) from.now to.now
         (copied_files (signal_opening 0 bytes.now))) }
     ensures clears { OnOk result (Clears (H.may_say_other host.old) to.now

@@ -1,8 +1,8 @@
 // The names of the files that hold one signal, and which of them are refused.
-ghost use Rattle.std.specs.Prelude.{◌≡◌, IfOk, IfErr, OnOk, None, string_bytes};
+ghost use Rattle.std.specs.Prelude.{◌≡◌, IfOk, IfErr, OnOk, false, None, string_bytes};
 ghost use Rattle.program.specs.Files.{counted_files};
 ghost use Rattle.program.specs.Names.{Clears, Spares, SparesAll, name_before, numbered};
-ghost use Rattle.program.specs.Refusals.{refusal_in};
+ghost use Rattle.program.specs.Refusals.{is_refused_by_writer, refusal_in};
 
 use crate::failure::Failure;
 use crate::host::Host;
@@ -48,6 +48,7 @@ pub fn files_for(samples: u128) -> u32
 pub fn clear<'a, H: Host>(heap: Global, host: &H, to: &str, files: u32) -> Result<(), Failure<'a>>
     ensures named { OnOk result (Clears (H.may_say_other host.now) to.now files) }
     ensures opened { IfErr result (λ e. refusal_in e ≡ None) }
+    ensures accepted { IfErr result (λ e. is_refused_by_writer e ≡ false) }
 {
     for number in 0..files {
         let other = file_name(heap, to, number.saturating_add(1))?;
@@ -68,6 +69,7 @@ pub fn spare<'a, H: Host>(
 ) -> Result<(), Failure<'a>>
     ensures named { OnOk result (Spares (H.may_say_same host.now) input.now to.now files) }
     ensures opened { IfErr result (λ e. refusal_in e ≡ None) }
+    ensures accepted { IfErr result (λ e. is_refused_by_writer e ≡ false) }
 {
     for number in 0..files {
         let name = file_name(heap, to, number.saturating_add(1))?;

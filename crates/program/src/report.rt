@@ -289,7 +289,8 @@ impl<'a> Report<'a> {
 /// What came of a run: its report, or why it stopped before.
 pub type Outcome<'a> = Result<Report<'a>, Failure<'a>>;
 
-/// The status that a run ends with: 0, or 1 where it stopped, met a fault or found a difference.
+/// The status that a run ends with: 0, or 1 where it stopped, met a fault, found a difference, or had no memory to compare
+/// block sizes.
 pub fn status(outcome: &Outcome<'_>) -> u8
     ensures { result ≡ status_of outcome.now }
 {

@@ -1,10 +1,11 @@
 // A signal written to files. One recording has at most 65,536 bytes, so a long signal takes several.
-ghost use Rattle.std.specs.Prelude.{◌≡◌, ◌+◌, ◌≤◌, max, IfOk, IfErr, OnOk, length, take, [], ◌∷◌, true, None};
+ghost use Rattle.std.specs.Prelude.{◌≡◌, ◌+◌, ◌≤◌, max, IfOk, IfErr, OnOk, length, take, [], ◌∷◌, true, false, None};
 ghost use Rattle.player.specs.Standing.{Stands};
 ghost use Rattle.program.specs.Files.{Adds, closing, files_of, recording_of};
 ghost use Rattle.program.specs.Names.{numbered};
 ghost use Rattle.program.specs.Outcomes.{written_of};
-ghost use Rattle.program.specs.Refusals.{is_late, refusal_in};
+ghost use Rattle.recordings.specs.Rates.{good_rate};
+ghost use Rattle.program.specs.Refusals.{is_late, is_refused_by_writer, refusal_in};
 
 use crate::block::{Block, ChainEnding, copies, next_block};
 use crate::failure::Failure;
@@ -49,6 +50,7 @@ fn encode<'a>(
     ensures within { IfOk result (λ n. n ≤ length bytes.new) }
     ensures holds { IfOk result (λ n. take n bytes.new ≡ recording_of rate samples.now) }
     ensures late { IfErr result (λ e. is_late e ≡ true) }
+    ensures accepted { IfErr result (λ e. is_refused_by_writer e ≡ true → good_rate rate ≡ false) }
     ensures opened { IfErr result (λ e. refusal_in e ≡ None) }
 {
     Ok(write(samples, rate, bytes)?)
@@ -70,6 +72,7 @@ fn write_file<'a, H: Host>(
         ((numbered to.now number, recording_of rate samples.now) ∷ [])
         (H.written host.old) (H.written host.new)) }
     ensures late { IfErr result (λ e. is_late e ≡ true) }
+    ensures accepted { IfErr result (λ e. is_refused_by_writer e ≡ true → good_rate rate ≡ false) }
     ensures opened { IfErr result (λ e. refusal_in e ≡ None) }
 {
     let length = encode(samples, rate, bytes)?;
@@ -92,6 +95,7 @@ fn close<'a, H: Host>(
     ensures written { OnOk result (Adds (closing to.now rate files)
         (H.written host.old) (H.written host.new)) }
     ensures late { IfErr result (λ e. is_late e ≡ true) }
+    ensures accepted { IfErr result (λ e. is_refused_by_writer e ≡ true → good_rate rate ≡ false) }
     ensures opened { IfErr result (λ e. refusal_in e ≡ None) }
 {
     if files > 0 {
@@ -104,6 +108,7 @@ fn close<'a, H: Host>(
 // Reports how far a long run has come.
 fn report_progress<'a, H: Host>(host: &H, samples: u64, files: u32) -> Result<(), Failure<'a>>
     ensures late { IfErr result (λ e. is_late e ≡ true) }
+    ensures accepted { IfErr result (λ e. is_refused_by_writer e ≡ false) }
     ensures opened { IfErr result (λ e. refusal_in e ≡ None) }
 {
     if files > 0 && files % FILES_A_LINE == 0 {
@@ -129,6 +134,7 @@ fn write_played<'a, S: Source<Item = ConverterSample>, H: Host>(
     ensures files { OnOk result (Adds (files_of to.now rate player.old.whole.items)
         (H.written host.old) (H.written host.new)) }
     ensures late { IfErr result (λ e. is_late e ≡ true) }
+    ensures accepted { IfErr result (λ e. is_refused_by_writer e ≡ true → good_rate rate ≡ false) }
     ensures opened { IfErr result (λ e. refusal_in e ≡ None) }
 {
     let mut samples = 0u64;
@@ -166,6 +172,7 @@ pub(crate) fn write_player<'a, S: Source<Item = ConverterSample> + Drop, H: Host
     ensures files { OnOk result (Adds (files_of to.now rate player.whole.items)
         (H.written host.old) (H.written host.new)) }
     ensures late { IfErr result (λ e. is_late e ≡ true) }
+    ensures accepted { IfErr result (λ e. is_refused_by_writer e ≡ true → good_rate rate ≡ false) }
     ensures opened { IfErr result (λ e. refusal_in e ≡ None) }
 {
     let mut block = copies(heap, ConverterSample::new(0, 0), MAX_SAMPLES)?;
@@ -193,6 +200,7 @@ pub fn write_files<'a, S: Source<Item = ConverterSample> + Drop, H: Host>(
     ensures files { OnOk result (Adds (files_of to.now rate (S.whole source).items)
         (H.written host.old) (H.written host.new)) }
     ensures late { IfErr result (λ e. is_late e ≡ true) }
+    ensures accepted { IfErr result (λ e. is_refused_by_writer e ≡ true → good_rate rate ≡ false) }
     ensures opened { IfErr result (λ e. refusal_in e ≡ None) }
 {
     write_player(heap, host, Player::new(source), to, rate)
